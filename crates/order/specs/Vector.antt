@@ -1,0 +1,35 @@
+-- Vectors over D depots. A vector is the function from a depot to its entry; a rule that reads one says how many entries count.
+-- Assumes nothing.
+use Prim.Native.Nat.{ℕ, _+_, max}
+use mathlib.Core.Bool.{Bool, _||_}
+use mathlib.Core.List.{List}
+use lib.Dec.{leb, eqb}
+use lib.ListN.{getD, set}
+use Rattle.order.specs.Loops.{times, every, pick}
+
+abbrev pub Vec : Type 0
+Vec = ℕ → ℕ
+
+-- the vector that stands in the words w from the place at on
+abbrev pub vectorAt : List ℕ → ℕ → Vec
+vectorAt w at x = getD w (at + x) 0
+
+-- u is covered by v in all of the n entries but that of depot d
+unfoldable pub covered : ℕ → ℕ → Vec → Vec → Bool
+covered n d u v = every n (λ x. eqb x d || leb (u x) (v x))
+
+-- the n entries are all 0
+unfoldable pub zeros : ℕ → Vec → Bool
+zeros n u = every n (λ x. eqb (u x) 0)
+
+-- u and v agree in the n entries
+unfoldable pub agree : ℕ → Vec → Vec → Bool
+agree n u v = every n (λ x. eqb (u x) (v x))
+
+-- the entrywise maximum
+unfoldable pub merged : Vec → Vec → Vec
+merged u v x = max (u x) (v x)
+
+-- the words w, in which each of the n entries from the place at on, but that of depot d, has become the larger of itself and u's
+unfoldable pub mergedAt : ℕ → ℕ → Vec → ℕ → List ℕ → List ℕ
+mergedAt n d u at w = times n (λ x l. pick (eqb x d) l (set l (at + x) (max (getD l (at + x) 0) (u x)))) w
