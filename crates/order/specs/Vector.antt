@@ -30,6 +30,10 @@ agree n u v = every n (λ x. eqb (u x) (v x))
 unfoldable pub merged : Vec → Vec → Vec
 merged u v x = max (u x) (v x)
 
--- the words w, in which each of the n entries from the place at on, but that of depot d, has become the larger of itself and u's
+-- the words l, in which the entry of depot x, unless x is d, has become the larger of itself and u's
+unfoldable pub mergeOne : ℕ → Vec → ℕ → ℕ → List ℕ → List ℕ
+mergeOne d u at x l = pick (eqb x d) l (set l (at + x) (max (getD l (at + x) 0) (u x)))
+
+-- the same for each of the n entries from the place at on
 unfoldable pub mergedAt : ℕ → ℕ → Vec → ℕ → List ℕ → List ℕ
-mergedAt n d u at w = times n (λ x l. pick (eqb x d) l (set l (at + x) (max (getD l (at + x) 0) (u x)))) w
+mergedAt n d u at l = times n (mergeOne d u at) l

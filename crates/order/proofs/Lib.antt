@@ -1,0 +1,4 @@
+pub mod BoolLaws
+pub mod LoopLaws
+pub mod VectorLaws
+pub mod OrderLaws

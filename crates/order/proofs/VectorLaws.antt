@@ -1,0 +1,128 @@
+-- The laws of vectors, each over the number of entries: what the tests say of each entry, and what the entrywise maximum leaves.
+-- Assumes nothing.
+use Prim.Native.Nat.{ℕ, zero, suc, _+_, _≤_, _<_, max}
+use native.Mathlib.Nat.{le-refl, le-step}
+use native.Mathlib.Omega.{arith}
+use mathlib.Core.Path.{_≡_, refl, sym, _∙_, ap, ap₂}
+use mathlib.Core.Logic.{_⊎_, inl, inr, ⊎-elim}
+use mathlib.Core.List.{List}
+use mathlib.Core.Bool.{Bool, true, false, _||_}
+use lib.Dec.{leb, eqb}
+use lib.ListN.{length, getD, set, length-set}
+use lib.Seq.{getD-set-same, getD-set-other}
+use borrow.Author.Tests.{le-leb, leb-true, eq-eqb, eqb-true, ne-eqb}
+use Rattle.order.specs.Loops.{times, every, pick}
+use Rattle.order.specs.Vector.{Vec, covered, zeros, agree, mergeOne, mergedAt}
+use Rattle.order.proofs.BoolLaws.{both-ways, decided, or-cases, or-left, or-right, eq-or-ne, pick-true, pick-false}
+use Rattle.order.proofs.LoopLaws.{times-keeps, every-at, every-intro, every-fails, every-same}
+
+-- covered in all entries but one
+pub covered-at : (n d : ℕ) (u v : Vec) → covered n d u v ≡ true → (x : ℕ) → x < n → (x ≡ d → ⊥) → u x ≤ v x
+unfolding covered
+covered-at n d u v h x l other =
+    ⊎-elim
+    (λ (e : eqb x d ≡ true). absurd (other (eqb-true x d e)))
+    (λ (e : leb (u x) (v x) ≡ true). leb-true (u x) (v x) e)
+    (or-cases (eqb x d) (leb (u x) (v x)) (every-at n _ h x l))
+
+pub covered-intro : (n d : ℕ) (u v : Vec) → ((x : ℕ) → x < n → (x ≡ d → ⊥) → u x ≤ v x) → covered n d u v ≡ true
+unfolding covered
+covered-intro n d u v h =
+    every-intro n _ λ x l.
+    ⊎-elim
+    (λ (e : x ≡ d). or-left (eqb x d) _ (eq-eqb x d e))
+    (λ (e : x ≡ d → ⊥). or-right (eqb x d) _ (le-leb (u x) (v x) (h x l e)))
+    (eq-or-ne x d)
+
+-- covered is a test of the n entries alone
+pub covered-same : (n d : ℕ) (u v u′ v′ : Vec) → ((x : ℕ) → x < n → u x ≡ u′ x) → ((x : ℕ) → x < n → v x ≡ v′ x) → covered n d u v ≡ covered n d u′ v′
+unfolding covered
+covered-same n d u v u′ v′ p q = every-same n _ _ λ x l. ap₂ (λ (a b : ℕ). eqb x d || leb a b) (p x l) (q x l)
+
+pub zeros-at : (n : ℕ) (u : Vec) → zeros n u ≡ true → (x : ℕ) → x < n → u x ≡ 0
+unfolding zeros
+zeros-at n u h x l = eqb-true (u x) 0 (every-at n _ h x l)
+
+pub zeros-intro : (n : ℕ) (u : Vec) → ((x : ℕ) → x < n → u x ≡ 0) → zeros n u ≡ true
+unfolding zeros
+zeros-intro n u h = every-intro n _ λ x l. eq-eqb (u x) 0 (h x l)
+
+-- an entry above 0 is not all zeros
+pub written-at : (n : ℕ) (u : Vec) (x : ℕ) → x < n → 0 < u x → zeros n u ≡ false
+written-at n u x l h =
+    ⊎-elim
+    (λ (e : zeros n u ≡ true). let z = zeros-at n u e x l in absurd (omega arith))
+    (λ (e : zeros n u ≡ false). e)
+    (decided (zeros n u))
+
+pub zeros-same : (n : ℕ) (u v : Vec) → ((x : ℕ) → x < n → u x ≡ v x) → zeros n u ≡ zeros n v
+unfolding zeros
+zeros-same n u v h = every-same n _ _ λ x l. ap (λ (a : ℕ). eqb a 0) (h x l)
+
+pub agree-at : (n : ℕ) (u v : Vec) → agree n u v ≡ true → (x : ℕ) → x < n → u x ≡ v x
+unfolding agree
+agree-at n u v h x l = eqb-true (u x) (v x) (every-at n _ h x l)
+
+pub agree-intro : (n : ℕ) (u v : Vec) → ((x : ℕ) → x < n → u x ≡ v x) → agree n u v ≡ true
+unfolding agree
+agree-intro n u v h = every-intro n _ λ x l. eq-eqb (u x) (v x) (h x l)
+
+-- one entry's maximum among words: the length stays, and so does every other word
+pub length-merge-one : (d : ℕ) (u : Vec) (at x : ℕ) (l : List ℕ) → length (mergeOne d u at x l) ≡ length l
+unfolding mergeOne pick
+length-merge-one d u at x l = go (eqb x d)
+  where
+    go : (b : Bool) → length (pick b l (set l (at + x) (max (getD l (at + x) 0) (u x)))) ≡ length l
+    go true = refl
+    go false = simp length-set
+
+pub merge-one-other : (d : ℕ) (u : Vec) (at x : ℕ) (l : List ℕ) (j : ℕ) → (j ≡ at + x → ⊥) ⊎ (x ≡ d) → getD (mergeOne d u at x l) j 0 ≡ getD l j 0
+unfolding mergeOne
+merge-one-other d u at x l j (inr e) = ap (λ (m : List ℕ). getD m j 0) (pick-true _ _ (eq-eqb x d e))
+merge-one-other d u at x l j (inl other) = go (eqb x d)
+  where
+    go : (b : Bool) → getD (pick b l (set l (at + x) (max (getD l (at + x) 0) (u x)))) j 0 ≡ getD l j 0
+    go true = unfold pick in refl
+    go false = unfold pick in getD-set-other l (at + x) j (max (getD l (at + x) 0) (u x)) 0 other
+
+pub merge-one-entry : (d : ℕ) (u : Vec) (at x : ℕ) (l : List ℕ) → at + x < length l → (x ≡ d → ⊥) → getD (mergeOne d u at x l) (at + x) 0 ≡ max (getD l (at + x) 0) (u x)
+unfolding mergeOne
+merge-one-entry d u at x l room other =
+    ap (λ (m : List ℕ). getD m (at + x) 0) (pick-false l (set l (at + x) (max (getD l (at + x) 0) (u x))) (ne-eqb x d other))
+    ∙ getD-set-same l (at + x) (max (getD l (at + x) 0) (u x)) 0 room
+
+-- the entrywise maximum among words: the length stays, the n entries but d's become the maximum, and every other word stays
+pub length-merged : (n d : ℕ) (u : Vec) (at : ℕ) (l : List ℕ) → length (mergedAt n d u at l) ≡ length l
+unfolding mergedAt
+length-merged n d u at l = times-keeps (λ m. length m ≡ length l) n _ l (λ x m h k. length-merge-one d u at x m ∙ k) refl
+
+pub merged-other : (n d : ℕ) (u : Vec) (at : ℕ) (l : List ℕ) (j : ℕ) → (j < at) ⊎ (at + n ≤ j) → getD (mergedAt n d u at l) j 0 ≡ getD l j 0
+unfolding mergedAt
+merged-other n d u at l j out =
+    times-keeps (λ m. getD m j 0 ≡ getD l j 0) n _ l (λ x m h k. merge-one-other d u at x m j (inl (apart x h out)) ∙ k) refl
+  where
+    apart : (x : ℕ) → x < n → (j < at) ⊎ (at + n ≤ j) → j ≡ at + x → ⊥
+    apart x h (inl p) e = omega arith
+    apart x h (inr p) e = omega arith
+
+pub merged-own : (n d : ℕ) (u : Vec) (at : ℕ) (l : List ℕ) → getD (mergedAt n d u at l) (at + d) 0 ≡ getD l (at + d) 0
+unfolding mergedAt
+merged-own n d u at l =
+    times-keeps (λ m. getD m (at + d) 0 ≡ getD l (at + d) 0) n _ l (λ x m h k. merge-one-other d u at x m (at + d) (apart x (eq-or-ne x d)) ∙ k) refl
+  where
+    apart : (x : ℕ) → (x ≡ d) ⊎ (x ≡ d → ⊥) → (at + d ≡ at + x → ⊥) ⊎ (x ≡ d)
+    apart x (inl e) = inr e
+    apart x (inr e) = inl (λ q. e (omega arith))
+
+pub merged-entry : (n d : ℕ) (u : Vec) (at : ℕ) (l : List ℕ) → at + n ≤ length l → (x : ℕ) → x < n → (x ≡ d → ⊥) → getD (mergedAt n d u at l) (at + x) 0 ≡ max (getD l (at + x) 0) (u x)
+unfolding mergedAt times
+merged-entry zero d u at l room x h other = absurd (omega arith)
+merged-entry (suc n) d u at l room x h other = go (λ below. merged-entry n d u at l (omega arith) x below other) (eq-or-ne x n)
+  where
+    before : List ℕ
+    before = mergedAt n d u at l
+
+    go : (x < n → getD before (at + x) 0 ≡ max (getD l (at + x) 0) (u x)) → (x ≡ n) ⊎ (x ≡ n → ⊥) → getD (mergeOne d u at n before) (at + x) 0 ≡ max (getD l (at + x) 0) (u x)
+    go rest (inl e) =
+        rw e (merge-one-entry d u at n before (rw length-merged (omega arith)) (λ q. other (e ∙ q)) ∙ ap (λ (a : ℕ). max a (u n)) (merged-other n d u at l (at + n) (inr (le-refl _))))
+    go rest (inr e) = merge-one-other d u at n before (at + x) (inl (λ q. e (omega arith))) ∙ rest (omega arith)
