@@ -1,4 +1,7 @@
 pub mod BoolLaws
 pub mod LoopLaws
 pub mod VectorLaws
+mod OrderForm
+mod OrderCode
 pub mod OrderLaws
+pub mod RecordLaws

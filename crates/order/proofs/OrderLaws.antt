@@ -1,105 +1,15 @@
 -- The laws of the order of versions: all that anybody outside this crate may use of it. Each is over the number n of depots.
 -- Assumes nothing.
-use Prim.Native.Nat.{ℕ, zero, suc, _≤_, _<_}
-use native.Mathlib.Nat.{le-refl, le-step}
+use Prim.Native.Nat.{ℕ, _≤_, _<_}
 use native.Mathlib.Omega.{arith}
-use mathlib.Core.Path.{_≡_, refl, sym, _∙_, subst}
+use mathlib.Core.Path.{_≡_, refl, sym, _∙_}
 use mathlib.Core.Logic.{_⊎_, inl, inr, ⊎-elim}
-use mathlib.Core.Bool.{Bool, true, false, _&&_, _||_, not}
-use lib.Dec.{ltb}
-use borrow.Author.Tests.{lt-ltb, ltb-true}
-use Rattle.order.specs.Vector.{Vec, agree, zeros}
-use Rattle.order.specs.Order.{Rank, leads, above, above-is}
-use Rattle.order.proofs.BoolLaws.{decided, failed, both-ways, and-left, and-right, and-intro, or-cases, or-left, or-right, not-passed, not-failed, le-or-lt, eq-or-ne}
-use Rattle.order.proofs.VectorLaws.{agree-at, agree-intro, zeros-at, zeros-same, written-at}
-
--- ---- the first difference
-
--- u and v differ first at `place`, and u is greater there
-record First (n : ℕ) (u v : Vec) : Type 0 where
-  place : ℕ
-  inside : place < n
-  greater : v place < u place
-  equal : (y : ℕ) → y < place → u y ≡ v y
-
-first-of : (n : ℕ) (u v : Vec) → leads n u v ≡ true → First n u v
-unfolding leads
-first-of zero u v h = absurd (both-ways h refl)
-first-of (suc n) u v h =
-    ⊎-elim
-    (λ (e : leads n u v ≡ true). let f = first-of n u v e in record { place = f .place; inside = le-step (f .inside); greater = f .greater; equal = f .equal })
-    (λ (e : agree n u v && ltb (v n) (u n) ≡ true).
-    record { place = n; inside = le-refl _; greater = ltb-true _ _ (and-right (agree n u v) _ e); equal = agree-at n u v (and-left (agree n u v) _ e) })
-    (or-cases (leads n u v) _ h)
-
-leads-of : (n : ℕ) (u v : Vec) → First n u v → leads n u v ≡ true
-unfolding leads
-leads-of zero u v f = let l = f .inside in absurd (omega arith)
-leads-of (suc n) u v f =
-    ⊎-elim
-    (λ (e : f .place ≡ n).
-    or-right (leads n u v) _ (and-intro (agree-intro n u v (λ y l. f .equal y (rw e l))) (lt-ltb (v n) (u n) (subst (λ (x : ℕ). v x < u x) e (f .greater)))))
-    (λ (e : f .place ≡ n → ⊥).
-    let l = f .inside in
-    or-left (leads n u v) _ (leads-of n u v (record { place = f .place; inside = omega arith; greater = f .greater; equal = f .equal })))
-    (eq-or-ne (f .place) n)
-
--- two vectors agree, or one of them leads
-data Compared (n : ℕ) (u v : Vec) : Type 0 where
-  equal : ((x : ℕ) → x < n → u x ≡ v x) → Compared n u v
-  ahead : First n u v → Compared n u v
-  behind : First n v u → Compared n u v
-
-compared : (n : ℕ) (u v : Vec) → Compared n u v
-compared zero u v = equal (λ x l. absurd (omega arith))
-compared (suc n) u v = go (compared n u v)
-  where
-    further : {u v : Vec} → First n u v → First (suc n) u v
-    further f = record { place = f .place; inside = le-step (f .inside); greater = f .greater; equal = f .equal }
-
-    last : (u v : Vec) → ((x : ℕ) → x < n → u x ≡ v x) → v n < u n → First (suc n) u v
-    last u v e l = record { place = n; inside = le-refl _; greater = l; equal = e }
-
-    same : ((x : ℕ) → x < n → u x ≡ v x) → u n ≡ v n → (x : ℕ) → x < suc n → u x ≡ v x
-    same e q x l = ⊎-elim (λ (k : x ≡ n). rw k q) (λ (k : x ≡ n → ⊥). e x (omega arith)) (eq-or-ne x n)
-
-    go : Compared n u v → Compared (suc n) u v
-    go (ahead f) = ahead (further f)
-    go (behind f) = behind (further f)
-    go (equal e) =
-        ⊎-elim
-        (λ (p : u n ≤ v n).
-        ⊎-elim
-        (λ (q : v n ≤ u n). equal (same e (omega arith)))
-        (λ (q : u n < v n). behind (last v u (λ x l. sym (e x l)) q))
-        (le-or-lt (v n) (u n)))
-        (λ (p : v n < u n). ahead (last u v e p))
-        (le-or-lt (u n) (v n))
-
--- ---- above, as a relation
-
--- a leads b; or a is written, has b's vector and a higher origin
-data Above (n : ℕ) (a b : Rank) : Type 0 where
-  leading : First n (a .vector) (b .vector) → Above n a b
-  higher : zeros n (a .vector) ≡ false → ((x : ℕ) → x < n → a .vector x ≡ b .vector x) → b .origin < a .origin → Above n a b
-
-open-above : {n : ℕ} {a b : Rank} → above n a b ≡ true → Above n a b
-open-above {n} {a} {b} h =
-    ⊎-elim
-    (λ (e : leads n (a .vector) (b .vector) ≡ true). leading (first-of n _ _ e))
-    (λ (e : agree n (a .vector) (b .vector) && ltb (b .origin) (a .origin) ≡ true).
-    higher (not-passed (and-left (not (zeros n (a .vector))) _ said)) (agree-at n _ _ (and-left (agree n _ _) _ e)) (ltb-true _ _ (and-right (agree n (a .vector) (b .vector)) _ e)))
-    (or-cases (leads n (a .vector) (b .vector)) _ (and-right (not (zeros n (a .vector))) _ said))
-  where
-    said : not (zeros n (a .vector)) && (leads n (a .vector) (b .vector) || agree n (a .vector) (b .vector) && ltb (b .origin) (a .origin)) ≡ true
-    said = sym (above-is n a b) ∙ h
-
-close-above : {n : ℕ} {a b : Rank} → Above n a b → above n a b ≡ true
-close-above {n} {a} {b} (leading f) =
-    let g = f .greater in
-    above-is n a b ∙ and-intro (not-failed (written-at n (a .vector) (f .place) (f .inside) (omega arith))) (or-left (leads n _ _) _ (leads-of n _ _ f))
-close-above {n} {a} {b} (higher w e l) =
-    above-is n a b ∙ and-intro (not-failed w) (or-right (leads n (a .vector) (b .vector)) _ (and-intro (agree-intro n _ _ e) (lt-ltb _ _ l)))
+use mathlib.Core.Bool.{true, false, not}
+use Rattle.order.specs.Vector.{Vec, zeros}
+use Rattle.order.specs.Order.{Rank, above, above-is}
+use Rattle.order.proofs.BoolLaws.{decided, failed, both-ways, le-or-lt, eq-or-ne}
+use Rattle.order.proofs.VectorLaws.{zeros-at, zeros-same, written-at}
+use Rattle.order.proofs.OrderForm.{First, Compared, equal, ahead, behind, compared, Above, leading, higher, open-above, close-above}
 
 -- a written vector on the strength of another with the same entries
 carried : (n : ℕ) (u v : Vec) → ((x : ℕ) → x < n → u x ≡ v x) → zeros n u ≡ false → zeros n v ≡ false
@@ -140,6 +50,10 @@ above-irrefl n a = failed _ λ h. never (open-above h)
 
 pub above-trans : (n : ℕ) (a b c : Rank) → above n a b ≡ true → above n b c ≡ true → above n a c ≡ true
 above-trans n a b c p q = close-above (joined (open-above p) (open-above q))
+
+-- of two, one at most is above the other
+pub above-asym : (n : ℕ) (a b : Rank) → above n a b ≡ true → above n b a ≡ false
+above-asym n a b p = failed _ λ q. both-ways (above-trans n a b a p q) (above-irrefl n a)
 
 -- of two written versions that differ in vector or origin one is above: where neither is, they agree in both
 pub above-total :
@@ -183,6 +97,14 @@ above-written n a b w z = go (compared n (a .vector) (b .vector))
     go (ahead f) = close-above (leading f)
     go (behind f) = let g = f .greater in let h = zeros-at n (b .vector) z (f .place) (f .inside) in absurd (omega arith)
     go (equal e) = absurd (both-ways z (carried n _ _ e w))
+
+-- so what is above an unwritten one is whatever is written
+pub above-nothing : (n : ℕ) (a b : Rank) → zeros n (b .vector) ≡ true → above n a b ≡ not (zeros n (a .vector))
+above-nothing n a b z =
+    ⊎-elim
+    (λ (e : zeros n (a .vector) ≡ true). rw e (above-unwritten n a b e))
+    (λ (e : zeros n (a .vector) ≡ false). rw e (above-written n a b e z))
+    (decided (zeros n (a .vector)))
 
 -- the order looks at the n entries and the origin alone
 pub above-cong :

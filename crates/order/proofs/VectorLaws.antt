@@ -1,7 +1,7 @@
 -- The laws of vectors, each over the number of entries: what the tests say of each entry, and what the entrywise maximum leaves.
 -- Assumes nothing.
 use Prim.Native.Nat.{ℕ, zero, suc, _+_, _≤_, _<_, max}
-use native.Mathlib.Nat.{le-refl, le-step}
+use native.Mathlib.Nat.{le-refl, le-of-lt, max-eq-left, max-eq-right}
 use native.Mathlib.Omega.{arith}
 use mathlib.Core.Path.{_≡_, refl, sym, _∙_, ap, ap₂}
 use mathlib.Core.Logic.{_⊎_, inl, inr, ⊎-elim}
@@ -9,12 +9,12 @@ use mathlib.Core.List.{List}
 use mathlib.Core.Bool.{Bool, true, false, _||_}
 use lib.Dec.{leb, eqb}
 use lib.ListN.{length, getD, set, length-set}
-use lib.Seq.{getD-set-same, getD-set-other}
+use lib.Seq.{getD-set-same, getD-set-other, set-getD}
 use borrow.Author.Tests.{le-leb, leb-true, eq-eqb, eqb-true, ne-eqb}
 use Rattle.order.specs.Loops.{times, every, pick}
 use Rattle.order.specs.Vector.{Vec, covered, zeros, agree, mergeOne, mergedAt}
-use Rattle.order.proofs.BoolLaws.{both-ways, decided, or-cases, or-left, or-right, eq-or-ne, pick-true, pick-false}
-use Rattle.order.proofs.LoopLaws.{times-keeps, every-at, every-intro, every-fails, every-same}
+use Rattle.order.proofs.BoolLaws.{failed, or-cases, or-left, or-right, eq-or-ne, pick-true, pick-false}
+use Rattle.order.proofs.LoopLaws.{times-keeps, every-none, every-more, every-at, every-intro, every-fails, every-same}
 
 -- covered in all entries but one
 pub covered-at : (n d : ℕ) (u v : Vec) → covered n d u v ≡ true → (x : ℕ) → x < n → (x ≡ d → ⊥) → u x ≤ v x
@@ -34,6 +34,19 @@ covered-intro n d u v h =
     (λ (e : x ≡ d → ⊥). or-right (eqb x d) _ (le-leb (u x) (v x) (h x l e)))
     (eq-or-ne x d)
 
+-- the same, entry after entry
+pub covered-none : (d : ℕ) (u v : Vec) → covered 0 d u v ≡ true
+unfolding covered
+covered-none d u v = every-none _
+
+pub covered-more : (x d : ℕ) (u v : Vec) → covered x d u v ≡ true → ((x ≡ d → ⊥) → u x ≤ v x) → covered (x + 1) d u v ≡ true
+covered-more x d u v h k =
+    covered-intro (x + 1) d u v λ y l other.
+    ⊎-elim (λ (e : y ≡ x). rw e (k (λ q. other (e ∙ q)))) (λ (e : y ≡ x → ⊥). covered-at x d u v h y (omega arith) other) (eq-or-ne y x)
+
+pub covered-stop : (n d : ℕ) (u v : Vec) (x : ℕ) → x < n → (x ≡ d → ⊥) → v x < u x → covered n d u v ≡ false
+covered-stop n d u v x l other h = failed _ λ e. let k = covered-at n d u v e x l other in omega arith
+
 -- covered is a test of the n entries alone
 pub covered-same : (n d : ℕ) (u v u′ v′ : Vec) → ((x : ℕ) → x < n → u x ≡ u′ x) → ((x : ℕ) → x < n → v x ≡ v′ x) → covered n d u v ≡ covered n d u′ v′
 unfolding covered
@@ -47,13 +60,20 @@ pub zeros-intro : (n : ℕ) (u : Vec) → ((x : ℕ) → x < n → u x ≡ 0) �
 unfolding zeros
 zeros-intro n u h = every-intro n _ λ x l. eq-eqb (u x) 0 (h x l)
 
--- an entry above 0 is not all zeros
+pub zeros-none : (u : Vec) → zeros 0 u ≡ true
+unfolding zeros
+zeros-none u = every-none _
+
+pub zeros-more : (x : ℕ) (u : Vec) → zeros x u ≡ true → u x ≡ 0 → zeros (x + 1) u ≡ true
+unfolding zeros
+zeros-more x u h k = every-more x _ h (eq-eqb (u x) 0 k)
+
+-- an entry that is not 0 is written
+pub zeros-stop : (n : ℕ) (u : Vec) (x : ℕ) → x < n → (u x ≡ 0 → ⊥) → zeros n u ≡ false
+zeros-stop n u x l h = failed _ λ e. h (zeros-at n u e x l)
+
 pub written-at : (n : ℕ) (u : Vec) (x : ℕ) → x < n → 0 < u x → zeros n u ≡ false
-written-at n u x l h =
-    ⊎-elim
-    (λ (e : zeros n u ≡ true). let z = zeros-at n u e x l in absurd (omega arith))
-    (λ (e : zeros n u ≡ false). e)
-    (decided (zeros n u))
+written-at n u x l h = zeros-stop n u x l λ e. omega arith
 
 pub zeros-same : (n : ℕ) (u v : Vec) → ((x : ℕ) → x < n → u x ≡ v x) → zeros n u ≡ zeros n v
 unfolding zeros
@@ -67,39 +87,53 @@ pub agree-intro : (n : ℕ) (u v : Vec) → ((x : ℕ) → x < n → u x ≡ v x
 unfolding agree
 agree-intro n u v h = every-intro n _ λ x l. eq-eqb (u x) (v x) (h x l)
 
--- one entry's maximum among words: the length stays, and so does every other word
-pub length-merge-one : (d : ℕ) (u : Vec) (at x : ℕ) (l : List ℕ) → length (mergeOne d u at x l) ≡ length l
+-- one entry's maximum among words, case by case
+pub merge-one-own : (d at x v : ℕ) (l : List ℕ) → x ≡ d → l ≡ mergeOne d at x v l
+unfolding mergeOne
+merge-one-own d at x v l e = sym (pick-true _ _ (eq-eqb x d e))
+
+pub merge-one-up : (d at x v : ℕ) (l : List ℕ) → (x ≡ d → ⊥) → getD l (at + x) 0 < v → set l (at + x) v ≡ mergeOne d at x v l
+unfolding mergeOne
+merge-one-up d at x v l e h = ap (λ (a : ℕ). set l (at + x) a) (sym (max-eq-right (le-of-lt h))) ∙ sym (pick-false _ _ (ne-eqb x d e))
+
+pub merge-one-stays : (d at x v : ℕ) (l : List ℕ) → (x ≡ d → ⊥) → v ≤ getD l (at + x) 0 → l ≡ mergeOne d at x v l
+unfolding mergeOne
+merge-one-stays d at x v l e h =
+    sym (set-getD l (at + x) 0) ∙ ap (λ (a : ℕ). set l (at + x) a) (sym (max-eq-left h)) ∙ sym (pick-false _ _ (ne-eqb x d e))
+
+-- the length stays, and so does every other word
+pub length-merge-one : (d at x v : ℕ) (l : List ℕ) → length (mergeOne d at x v l) ≡ length l
 unfolding mergeOne pick
-length-merge-one d u at x l = go (eqb x d)
+length-merge-one d at x v l = go (eqb x d)
   where
-    go : (b : Bool) → length (pick b l (set l (at + x) (max (getD l (at + x) 0) (u x)))) ≡ length l
+    go : (b : Bool) → length (pick b l (set l (at + x) (max (getD l (at + x) 0) v))) ≡ length l
     go true = refl
     go false = simp length-set
 
-pub merge-one-other : (d : ℕ) (u : Vec) (at x : ℕ) (l : List ℕ) (j : ℕ) → (j ≡ at + x → ⊥) ⊎ (x ≡ d) → getD (mergeOne d u at x l) j 0 ≡ getD l j 0
+pub merge-one-other : (d at x v : ℕ) (l : List ℕ) (j : ℕ) → (j ≡ at + x → ⊥) ⊎ (x ≡ d) → getD (mergeOne d at x v l) j 0 ≡ getD l j 0
 unfolding mergeOne
-merge-one-other d u at x l j (inr e) = ap (λ (m : List ℕ). getD m j 0) (pick-true _ _ (eq-eqb x d e))
-merge-one-other d u at x l j (inl other) = go (eqb x d)
+merge-one-other d at x v l j (inr e) = ap (λ (m : List ℕ). getD m j 0) (pick-true _ _ (eq-eqb x d e))
+merge-one-other d at x v l j (inl other) = go (eqb x d)
   where
-    go : (b : Bool) → getD (pick b l (set l (at + x) (max (getD l (at + x) 0) (u x)))) j 0 ≡ getD l j 0
+    go : (b : Bool) → getD (pick b l (set l (at + x) (max (getD l (at + x) 0) v))) j 0 ≡ getD l j 0
     go true = unfold pick in refl
-    go false = unfold pick in getD-set-other l (at + x) j (max (getD l (at + x) 0) (u x)) 0 other
+    go false = unfold pick in getD-set-other l (at + x) j (max (getD l (at + x) 0) v) 0 other
 
-pub merge-one-entry : (d : ℕ) (u : Vec) (at x : ℕ) (l : List ℕ) → at + x < length l → (x ≡ d → ⊥) → getD (mergeOne d u at x l) (at + x) 0 ≡ max (getD l (at + x) 0) (u x)
+pub merge-one-entry : (d at x v : ℕ) (l : List ℕ) → at + x < length l → (x ≡ d → ⊥) → getD (mergeOne d at x v l) (at + x) 0 ≡ max (getD l (at + x) 0) v
 unfolding mergeOne
-merge-one-entry d u at x l room other =
-    ap (λ (m : List ℕ). getD m (at + x) 0) (pick-false l (set l (at + x) (max (getD l (at + x) 0) (u x))) (ne-eqb x d other))
-    ∙ getD-set-same l (at + x) (max (getD l (at + x) 0) (u x)) 0 room
+merge-one-entry d at x v l room other =
+    ap (λ (m : List ℕ). getD m (at + x) 0) (pick-false l (set l (at + x) (max (getD l (at + x) 0) v)) (ne-eqb x d other))
+    ∙ getD-set-same l (at + x) (max (getD l (at + x) 0) v) 0 room
 
 -- the entrywise maximum among words: the length stays, the n entries but d's become the maximum, and every other word stays
 pub length-merged : (n d : ℕ) (u : Vec) (at : ℕ) (l : List ℕ) → length (mergedAt n d u at l) ≡ length l
 unfolding mergedAt
-length-merged n d u at l = times-keeps (λ m. length m ≡ length l) n _ l (λ x m h k. length-merge-one d u at x m ∙ k) refl
+length-merged n d u at l = times-keeps (λ m. length m ≡ length l) n _ l (λ x m h k. length-merge-one d at x (u x) m ∙ k) refl
 
 pub merged-other : (n d : ℕ) (u : Vec) (at : ℕ) (l : List ℕ) (j : ℕ) → (j < at) ⊎ (at + n ≤ j) → getD (mergedAt n d u at l) j 0 ≡ getD l j 0
 unfolding mergedAt
 merged-other n d u at l j out =
-    times-keeps (λ m. getD m j 0 ≡ getD l j 0) n _ l (λ x m h k. merge-one-other d u at x m j (inl (apart x h out)) ∙ k) refl
+    times-keeps (λ m. getD m j 0 ≡ getD l j 0) n _ l (λ x m h k. merge-one-other d at x (u x) m j (inl (apart x h out)) ∙ k) refl
   where
     apart : (x : ℕ) → x < n → (j < at) ⊎ (at + n ≤ j) → j ≡ at + x → ⊥
     apart x h (inl p) e = omega arith
@@ -108,7 +142,7 @@ merged-other n d u at l j out =
 pub merged-own : (n d : ℕ) (u : Vec) (at : ℕ) (l : List ℕ) → getD (mergedAt n d u at l) (at + d) 0 ≡ getD l (at + d) 0
 unfolding mergedAt
 merged-own n d u at l =
-    times-keeps (λ m. getD m (at + d) 0 ≡ getD l (at + d) 0) n _ l (λ x m h k. merge-one-other d u at x m (at + d) (apart x (eq-or-ne x d)) ∙ k) refl
+    times-keeps (λ m. getD m (at + d) 0 ≡ getD l (at + d) 0) n _ l (λ x m h k. merge-one-other d at x (u x) m (at + d) (apart x (eq-or-ne x d)) ∙ k) refl
   where
     apart : (x : ℕ) → (x ≡ d) ⊎ (x ≡ d → ⊥) → (at + d ≡ at + x → ⊥) ⊎ (x ≡ d)
     apart x (inl e) = inr e
@@ -122,7 +156,7 @@ merged-entry (suc n) d u at l room x h other = go (λ below. merged-entry n d u 
     before : List ℕ
     before = mergedAt n d u at l
 
-    go : (x < n → getD before (at + x) 0 ≡ max (getD l (at + x) 0) (u x)) → (x ≡ n) ⊎ (x ≡ n → ⊥) → getD (mergeOne d u at n before) (at + x) 0 ≡ max (getD l (at + x) 0) (u x)
+    go : (x < n → getD before (at + x) 0 ≡ max (getD l (at + x) 0) (u x)) → (x ≡ n) ⊎ (x ≡ n → ⊥) → getD (mergeOne d at n (u n) before) (at + x) 0 ≡ max (getD l (at + x) 0) (u x)
     go rest (inl e) =
-        rw e (merge-one-entry d u at n before (rw length-merged (omega arith)) (λ q. other (e ∙ q)) ∙ ap (λ (a : ℕ). max a (u n)) (merged-other n d u at l (at + n) (inr (le-refl _))))
-    go rest (inr e) = merge-one-other d u at n before (at + x) (inl (λ q. e (omega arith))) ∙ rest (omega arith)
+        rw e (merge-one-entry d at n (u n) before (rw length-merged (omega arith)) (λ q. other (e ∙ q)) ∙ ap (λ (a : ℕ). max a (u n)) (merged-other n d u at l (at + n) (inr (le-refl _))))
+    go rest (inr e) = merge-one-other d at n (u n) before (at + x) (inl (λ q. e (omega arith))) ∙ rest (omega arith)

@@ -1,3 +1,4 @@
 pub mod Loops
 pub mod Vector
 pub mod Order
+pub mod Record

@@ -10,6 +10,10 @@ use Rattle.order.specs.Loops.{times, every, pick}
 abbrev pub Vec : Type 0
 Vec = ℕ → ℕ
 
+-- the vector that the words w are
+abbrev pub vectorIn : List ℕ → Vec
+vectorIn w x = getD w x 0
+
 -- the vector that stands in the words w from the place at on
 abbrev pub vectorAt : List ℕ → ℕ → Vec
 vectorAt w at x = getD w (at + x) 0
@@ -30,10 +34,10 @@ agree n u v = every n (λ x. eqb (u x) (v x))
 unfoldable pub merged : Vec → Vec → Vec
 merged u v x = max (u x) (v x)
 
--- the words l, in which the entry of depot x, unless x is d, has become the larger of itself and u's
-unfoldable pub mergeOne : ℕ → Vec → ℕ → ℕ → List ℕ → List ℕ
-mergeOne d u at x l = pick (eqb x d) l (set l (at + x) (max (getD l (at + x) 0) (u x)))
+-- the words l, in which the entry of depot x, unless x is d, has become the larger of itself and v
+unfoldable pub mergeOne : ℕ → ℕ → ℕ → ℕ → List ℕ → List ℕ
+mergeOne d at x v l = pick (eqb x d) l (set l (at + x) (max (getD l (at + x) 0) v))
 
--- the same for each of the n entries from the place at on
+-- the same for each of the n entries from the place at on, with the entries of u
 unfoldable pub mergedAt : ℕ → ℕ → Vec → ℕ → List ℕ → List ℕ
-mergedAt n d u at l = times n (mergeOne d u at) l
+mergedAt n d u at l = times n (λ x m. mergeOne d at x (u x) m) l
