@@ -1,2 +1,3 @@
 pub mod Chosen
 pub mod WordsLaws
+pub mod PartsLaws

@@ -1,2 +1,3 @@
 pub mod Words
 pub mod Layout
+pub mod Parts
