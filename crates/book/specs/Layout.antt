@@ -5,6 +5,7 @@ use mathlib.Core.List.{List}
 use lib.ListN.{getD}
 use Rattle.order.specs.Vector.{Vec, vectorAt}
 use Rattle.book.specs.Words.{part}
+use Rattle.book.specs.declared.parts.Counts.{Counts}
 
 abbrev pub bookWords : ℕ
 bookWords = 16384
@@ -64,17 +65,9 @@ storedAt d k = 10596 + 1440 * d + 9 * k
 
 -- ---- what stands there, in a book l
 
-abbrev pub depots : List ℕ → ℕ
-depots l = getD l 0 0
-
-abbrev pub shelves : List ℕ → ℕ
-shelves l = getD l 1 0
-
-abbrev pub bearings : List ℕ → ℕ
-bearings l = getD l 2 0
-
-abbrev pub crews : List ℕ → ℕ
-crews l = getD l 3 0
+-- the four counts
+abbrev pub countsOf : List ℕ → Counts
+countsOf l = record { depots = getD l 0 0; shelves = getD l 1 0; bearings = getD l 2 0; crews = getD l 3 0 }
 
 abbrev pub home : List ℕ → ℕ → ℕ
 home l c = getD l (homeAt c) 0

@@ -1,5 +1,9 @@
 // Readers and writers of the book's parts, one word or two at a time.
+use crate::layout::BEARINGS;
+use crate::layout::CREWS;
+use crate::layout::DEPOTS;
 use crate::layout::Link;
+use crate::layout::SHELVES;
 use crate::layout::clock_at;
 use crate::layout::home_at;
 use crate::layout::seen_at;
@@ -11,13 +15,34 @@ ghost use Prim.Native.Nat.{_+_, _<_};
 ghost use lib.ListN.{length, set};
 ghost use Rattle.order.specs.Record.{mostDepots};
 ghost use Rattle.book.specs.Layout.{bookWords, mostShelves, mostCrews, links};
-ghost use Rattle.book.specs.Layout.{home, clock, held, taken, clockAt, seenAt, heldAt, takenAt};
+ghost use Rattle.book.specs.Layout.{countsOf, home, clock, held, taken, clockAt, seenAt, heldAt, takenAt};
 
 // A word as a number to count with.
 pub fn wide(word: u32) -> usize
     ensures { λ r. ⌜ r ≡ word ⌝ }
 {
     word as usize
+}
+
+// The four counts of a register.
+pub struct Counts {
+    pub depots: usize,
+    pub shelves: usize,
+    pub bearings: usize,
+    pub crews: usize,
+}
+
+// The counts that stand in the book.
+pub fn counts_of(book: &[u32]) -> Counts
+    requires { ⌜ length (now book) ≡ bookWords ⌝ }
+    ensures { λ r. ⌜ r ≡ countsOf (now (book .entry)) ⌝ }
+{
+    Counts {
+        depots: wide(book[DEPOTS]),
+        shelves: wide(book[SHELVES]),
+        bearings: wide(book[BEARINGS]),
+        crews: wide(book[CREWS]),
+    }
 }
 
 // The home of a crew.

@@ -1,0 +1,110 @@
+-- When a book is fit: document 01's list, one definition for each part and their conjunction. Every word that no definition reads is
+-- unused and may hold anything.
+-- Assumes nothing.
+use Prim.Native.Nat.{ℕ, _+_, _-_, _%_}
+use mathlib.Core.Bool.{Bool, _&&_, _||_}
+use mathlib.Core.List.{List}
+use lib.Dec.{leb, ltb, eqb}
+use lib.ListN.{length}
+use Rattle.order.specs.Loops.{every}
+use Rattle.order.specs.Vector.{Vec, covered, zeros}
+use Rattle.order.specs.Record.{mostDepots, bearingOf, originOf, vectorOf}
+use Rattle.book.specs.declared.parts.Counts.{Counts}
+use Rattle.book.specs.Layout.{bookWords, mostShelves, mostCrews, linkRoom, countsOf, home, crewVector, clock, stable, seen, linkOf, held, taken, slot, stored}
+use Rattle.book.specs.Layout.{copyKind, beatKind, kindOf, beatOf, recordOf}
+
+-- the end of every clock, stamp and vector entry
+abbrev pub end : ℕ
+end = 2147483647
+
+-- how many bearings a register may have
+abbrev pub mostBearings : ℕ
+mostBearings = 64
+
+-- ---- numbers and vectors
+
+abbrev pub between : ℕ → ℕ → ℕ → Bool
+between low x high = leb low x && leb x high
+
+-- every one of the n entries is in range
+unfoldable pub inRange : ℕ → Vec → Bool
+inRange n v = every n (λ x. leb (v x) end)
+
+-- every one of them but that of depot d
+unfoldable pub othersInRange : ℕ → ℕ → Vec → Bool
+othersInRange n d v = covered n d v (λ x. end)
+
+-- ---- the parts
+
+-- the counts are in range
+unfoldable pub countsFit : Counts → Bool
+countsFit n =
+    between 1 (n .depots) mostDepots
+    && (between 1 (n .shelves) mostShelves && (between 1 (n .bearings) mostBearings && between 1 (n .crews) mostCrews))
+
+-- the home of crew c is in range
+unfoldable pub homeFit : Counts → List ℕ → ℕ → Bool
+homeFit n l c = ltb (home l c) (n .depots)
+
+-- the vector of crew c is in range
+unfoldable pub crewFit : Counts → List ℕ → ℕ → Bool
+crewFit n l c = inRange (n .depots) (crewVector l c)
+
+-- shelf s of depot d: its clock, stable vector and stamps seen are in range, and the own stable entry is 0
+unfoldable pub shelfFit : Counts → List ℕ → ℕ → ℕ → Bool
+shelfFit n l d s =
+    leb (clock l d s) end && (eqb (stable l d s d) 0 && (othersInRange (n .depots) d (stable l d s) && othersInRange (n .depots) d (seen l d s)))
+
+-- a version: its vector is in range, its origin is a depot, and its stamp, which is its origin's entry, is above 0
+unfoldable pub versionFit : Counts → List ℕ → Bool
+versionFit n r = inRange (n .depots) (vectorOf r) && (ltb (originOf r) (n .depots) && ltb 0 (vectorOf r (originOf r)))
+
+-- a copy on a link: its origin is the link's depot, its bearing one of the link's shelf
+unfoldable pub copyFit : Counts → ℕ → ℕ → List ℕ → Bool
+copyFit n s from m =
+    eqb (kindOf m) copyKind
+    && (versionFit n (recordOf m)
+    && (eqb (originOf (recordOf m)) from && (ltb (bearingOf (recordOf m)) (n .bearings) && eqb (bearingOf (recordOf m) % n .shelves) s)))
+
+-- a heartbeat: its stamp is in range
+unfoldable pub beatFit : List ℕ → Bool
+beatFit m = eqb (kindOf m) beatKind && leb (beatOf m) end
+
+unfoldable pub messageFit : Counts → ℕ → ℕ → List ℕ → Bool
+messageFit n s from m = beatFit m || copyFit n s from m
+
+-- link q of shelf s out of a depot: it holds no more than there is room for; the taken messages stand first and are copies
+unfoldable pub linkFit : Counts → List ℕ → ℕ → ℕ → ℕ → Bool
+linkFit n l s from q =
+    leb (held l q) linkRoom
+    && (leb (taken l q) (held l q)
+    && (every (taken l q) (λ i. copyFit n s from (slot l q i)) && every (held l q - taken l q) (λ i. messageFit n s from (slot l q (taken l q + i)))))
+
+-- the stored version of bearing k at depot d: unwritten, or a version of that very bearing
+unfoldable pub storedFit : Counts → List ℕ → ℕ → ℕ → Bool
+storedFit n l d k = zeros (n .depots) (vectorOf (stored l d k)) || (versionFit n (stored l d k) && eqb (bearingOf (stored l d k)) k)
+
+-- ---- the whole
+
+unfoldable pub homesFit : Counts → List ℕ → Bool
+homesFit n l = every (n .crews) (homeFit n l)
+
+unfoldable pub crewsFit : Counts → List ℕ → Bool
+crewsFit n l = every (n .crews) (crewFit n l)
+
+unfoldable pub shelvesFit : Counts → List ℕ → Bool
+shelvesFit n l = every (n .depots) (λ d. every (n .shelves) (shelfFit n l d))
+
+-- a depot has no link to itself
+unfoldable pub linksFit : Counts → List ℕ → Bool
+linksFit n l = every (n .shelves) (λ s. every (n .depots) (λ from. every (n .depots) (λ to. eqb from to || linkFit n l s from (linkOf s from to))))
+
+unfoldable pub storesFit : Counts → List ℕ → Bool
+storesFit n l = every (n .depots) (λ d. every (n .bearings) (storedFit n l d))
+
+-- a book is fit when it has its length and every part is fit
+unfoldable pub fit : List ℕ → Bool
+fit l =
+    eqb (length l) bookWords
+    && (countsFit (countsOf l)
+    && (homesFit (countsOf l) l && (crewsFit (countsOf l) l && (shelvesFit (countsOf l) l && (linksFit (countsOf l) l && storesFit (countsOf l) l)))))
