@@ -26,6 +26,9 @@ module _ (l : List ℕ) where
   unfolding part
   part-lent a e n q = let k : e - a ≡ n = omega arith in rw k
 
+  pub part-from : (n : ℕ) {a at : ℕ} → at ≡ a → take (at + n - at) (drop at l) ≡ part l a n
+  part-from n {a} {at} e = part-lent at (at + n) n refl ∙ ap (λ (i : ℕ). part l i n) e
+
   pub part-none : (a : ℕ) → part l a 0 ≡ []
   unfolding part
   part-none a = refl

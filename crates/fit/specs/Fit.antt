@@ -23,7 +23,7 @@ mostBearings = 64
 
 -- ---- numbers and vectors
 
-abbrev pub between : ℕ → ℕ → ℕ → Bool
+unfoldable pub between : ℕ → ℕ → ℕ → Bool
 between low x high = leb low x && leb x high
 
 -- every one of the n entries is in range
@@ -59,12 +59,13 @@ shelfFit n l d s =
 unfoldable pub versionFit : Counts → List ℕ → Bool
 versionFit n r = inRange (n .depots) (vectorOf r) && (ltb (originOf r) (n .depots) && ltb 0 (vectorOf r (originOf r)))
 
--- a copy on a link: its origin is the link's depot, its bearing one of the link's shelf
+-- what a link carries: a version whose origin is the link's depot, and whose bearing is one of the link's shelf
+unfoldable pub carriedFit : Counts → ℕ → ℕ → List ℕ → Bool
+carriedFit n s from r = versionFit n r && (eqb (originOf r) from && (ltb (bearingOf r) (n .bearings) && eqb (bearingOf r % n .shelves) s))
+
+-- a copy on a link
 unfoldable pub copyFit : Counts → ℕ → ℕ → List ℕ → Bool
-copyFit n s from m =
-    eqb (kindOf m) copyKind
-    && (versionFit n (recordOf m)
-    && (eqb (originOf (recordOf m)) from && (ltb (bearingOf (recordOf m)) (n .bearings) && eqb (bearingOf (recordOf m) % n .shelves) s)))
+copyFit n s from m = eqb (kindOf m) copyKind && carriedFit n s from (recordOf m)
 
 -- a heartbeat: its stamp is in range
 unfoldable pub beatFit : List ℕ → Bool
@@ -80,9 +81,13 @@ linkFit n l s from q =
     && (leb (taken l q) (held l q)
     && (every (taken l q) (λ i. copyFit n s from (slot l q i)) && every (held l q - taken l q) (λ i. messageFit n s from (slot l q (taken l q + i)))))
 
--- the stored version of bearing k at depot d: unwritten, or a version of that very bearing
+-- a record stored for bearing k: unwritten, or a version of that very bearing
+unfoldable pub keptFit : Counts → ℕ → List ℕ → Bool
+keptFit n k r = zeros (n .depots) (vectorOf r) || (versionFit n r && eqb (bearingOf r) k)
+
+-- the stored version of bearing k at depot d
 unfoldable pub storedFit : Counts → List ℕ → ℕ → ℕ → Bool
-storedFit n l d k = zeros (n .depots) (vectorOf (stored l d k)) || (versionFit n (stored l d k) && eqb (bearingOf (stored l d k)) k)
+storedFit n l d k = keptFit n k (stored l d k)
 
 -- ---- the whole
 

@@ -1,7 +1,7 @@
 -- Facts about tests that every crate uses: a test passes or fails, and what a passed or failed `&&` and `||` say.
 -- Assumes nothing.
 use Prim.Native.Nat.{ℕ, _≤_, _<_}
-use mathlib.Core.Path.{_≡_, refl}
+use mathlib.Core.Path.{_≡_, refl, sym}
 use mathlib.Core.Logic.{_⊎_, inl, inr, ⊎-elim}
 use mathlib.Core.Bool.{Bool, true, false, _&&_, _||_, not, true≢false, false≢true}
 use lib.Dec.{leb, ltb, eqb}
@@ -24,6 +24,12 @@ passed false h = absurd (h refl)
 pub both-ways : {b : Bool} → b ≡ true → b ≡ false → ⊥
 both-ways {b = true} p q = true≢false q
 both-ways {b = false} p q = false≢true p
+
+-- two tests that pass together are the same test
+pub together : (a b : Bool) → (a ≡ true → b ≡ true) → (b ≡ true → a ≡ true) → a ≡ b
+together true b f g = sym (f refl)
+together false true f g = g refl
+together false false f g = refl
 
 pub and-left : (a b : Bool) → a && b ≡ true → a ≡ true
 and-left true b h = refl
@@ -56,6 +62,32 @@ not-passed {b = false} h = refl
 pub not-failed : {b : Bool} → b ≡ false → not b ≡ true
 not-failed {b = true} h = absurd (true≢false h)
 not-failed {b = false} h = refl
+
+-- a chain of tests, one after the other: go on, or stop
+pub and-next : {a : Bool} (b : Bool) → a ≡ true → a && b ≡ b
+and-next {a = true} b h = refl
+and-next {a = false} b h = absurd (false≢true h)
+
+pub and-stop : {a : Bool} (b : Bool) → a ≡ false → a && b ≡ false
+and-stop {a = true} b h = absurd (true≢false h)
+and-stop {a = false} b h = refl
+
+pub or-next : {a : Bool} (b : Bool) → a ≡ false → a || b ≡ b
+or-next {a = true} b h = absurd (true≢false h)
+or-next {a = false} b h = refl
+
+pub or-stop : {a : Bool} (b : Bool) → a ≡ true → a || b ≡ true
+or-stop {a = true} b h = refl
+or-stop {a = false} b h = absurd (false≢true h)
+
+-- what a branch on `!r` tells of the test that r is
+pub test-passed : {r b : Bool} → r ≡ b → not r ≡ false → b ≡ true
+test-passed {r = true} e h = sym e
+test-passed {r = false} e h = absurd (true≢false h)
+
+pub test-failed : {r b : Bool} → r ≡ b → not r ≡ true → b ≡ false
+test-failed {r = true} e h = absurd (false≢true h)
+test-failed {r = false} e h = sym e
 
 -- two numbers in order, one way or the other
 pub le-or-lt : (a b : ℕ) → (a ≤ b) ⊎ (b < a)

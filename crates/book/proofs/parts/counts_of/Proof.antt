@@ -7,12 +7,12 @@ use Rattle.book.proofs.parts.counts_of.Tie as tie
 returns : tie.Need-returns
 returns c =
     λ i.
-    record
-      { depots = c .before .before .before .before .before .before .wide .ensures i
-      ; shelves = c .before .before .before .before .wide2 .ensures i
-      ; bearings = c .before .before .wide3 .ensures i
-      ; crews = c .wide4 .ensures i
-      }
+    record {
+      depots = c .before .before .before .before .before .before .wide .ensures i;
+      shelves = c .before .before .before .before .wide2 .ensures i;
+      bearings = c .before .before .wide3 .ensures i;
+      crews = c .wide4 .ensures i;
+    }
 
 pub counts-of-spec : {M : Type 1} → statement M
 counts-of-spec =
