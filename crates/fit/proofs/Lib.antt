@@ -1,3 +1,4 @@
 pub mod LookLaws
 pub mod RangeLaws
 pub mod MessageLaws
+pub mod FitLaws

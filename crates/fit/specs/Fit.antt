@@ -1,7 +1,7 @@
 -- When a book is fit: document 01's list, one definition for each part and their conjunction. Every word that no definition reads is
 -- unused and may hold anything.
 -- Assumes nothing.
-use Prim.Native.Nat.{ℕ, _+_, _-_, _%_}
+use Prim.Native.Nat.{ℕ, _+_, _-_, _%_, _≤_, _<_}
 use mathlib.Core.Bool.{Bool, _&&_, _||_}
 use mathlib.Core.List.{List}
 use lib.Dec.{leb, ltb, eqb}
@@ -10,7 +10,7 @@ use Rattle.order.specs.Loops.{every}
 use Rattle.order.specs.Vector.{Vec, covered, zeros}
 use Rattle.order.specs.Record.{mostDepots, bearingOf, originOf, vectorOf}
 use Rattle.book.specs.declared.parts.Counts.{Counts}
-use Rattle.book.specs.Layout.{bookWords, mostShelves, mostCrews, linkRoom, countsOf, home, crewVector, clock, stable, seen, linkOf, held, taken, slot, stored}
+use Rattle.book.specs.Layout.{bookWords, mostShelves, mostCrews, bearingRoom, linkRoom, countsOf, home, crewVector, clock, stable, seen, linkOf, held, taken, slot, stored}
 use Rattle.book.specs.Layout.{copyKind, beatKind, kindOf, beatOf, recordOf}
 
 -- the end of every clock, stamp and vector entry
@@ -89,6 +89,14 @@ keptFit n k r = zeros (n .depots) (vectorOf r) || (versionFit n r && eqb (bearin
 unfoldable pub storedFit : Counts → List ℕ → ℕ → ℕ → Bool
 storedFit n l d k = keptFit n k (stored l d k)
 
+-- what counts in range give: the layout has every part that they name, and there is a shelf
+pub record Within (n : Counts) : Type 0 where
+  pub depots : n .depots ≤ mostDepots
+  pub shelf : 0 < n .shelves
+  pub shelves : n .shelves ≤ mostShelves
+  pub bearings : n .bearings ≤ bearingRoom
+  pub crews : n .crews ≤ mostCrews
+
 -- ---- the whole
 
 unfoldable pub homesFit : Counts → List ℕ → Bool
@@ -107,9 +115,10 @@ linksFit n l = every (n .shelves) (λ s. every (n .depots) (λ from. every (n .d
 unfoldable pub storesFit : Counts → List ℕ → Bool
 storesFit n l = every (n .depots) (λ d. every (n .bearings) (storedFit n l d))
 
+-- every part but the counts
+unfoldable pub partsFit : Counts → List ℕ → Bool
+partsFit n l = homesFit n l && (crewsFit n l && (shelvesFit n l && (linksFit n l && storesFit n l)))
+
 -- a book is fit when it has its length and every part is fit
 unfoldable pub fit : List ℕ → Bool
-fit l =
-    eqb (length l) bookWords
-    && (countsFit (countsOf l)
-    && (homesFit (countsOf l) l && (crewsFit (countsOf l) l && (shelvesFit (countsOf l) l && (linksFit (countsOf l) l && storesFit (countsOf l) l)))))
+fit l = eqb (length l) bookWords && (countsFit (countsOf l) && partsFit (countsOf l) l)
