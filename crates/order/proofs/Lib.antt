@@ -5,3 +5,4 @@ mod OrderForm
 mod OrderCode
 pub mod OrderLaws
 pub mod RecordLaws
+pub mod OrderCases

@@ -1,0 +1,118 @@
+-- Every write in a crew's past is below the crew's vector, entry by entry; so at the home shelf, raised with that vector and shown, it can be
+-- neither held nor coming: it is stored, or a greater one is.
+-- Assumes nothing.
+use Prim.Native.Nat.{ℕ, _≤_, max}
+use native.Mathlib.Omega.{arith}
+use native.Mathlib.Nat.{le-refl, le-trans}
+use mathlib.Core.Path.{_≡_, sym, subst, ap, _∙_}
+use mathlib.Core.Logic.{⊎-elim}
+use mathlib.Core.Bool.{true}
+use mathlib.Core.List.{List, _∷_}
+use Rattle.order.specs.Vector.{Vec, merged, zeros}
+use Rattle.order.proofs.VectorLaws.{covered-intro}
+use Rattle.order.proofs.BoolLaws.{both-ways}
+use Rattle.model.specs.Parts.{Counts, Version, Write, State, setShelf, setCrew, stampOf}
+use Rattle.model.specs.Rules.{settled, clear, keep, emit, send}
+use Rattle.model.specs.Calls.{Call, read, write, shelfOf, homeShelf, answered, made, refusal, reading, acted, run}
+use Rattle.model.specs.Demands.{Wrote, Got, MadeAt, now, earlier, Made, Past, wrote, got, kept, under}
+use Rattle.model.proofs.Places.{put-all, put-same}
+use Rattle.model.proofs.Showing.{AtMost, atMost-trans}
+use Rattle.model.proofs.Chains.{chain-member}
+use Rattle.model.proofs.Invariant.{Rests, Stands, stored, held, coming, Sound}
+use Rattle.model.proofs.Settling.{raised-offered, settled-rises, settled-has}
+use Rattle.model.proofs.Refusals.{read-passed, write-passed, SetUp, shelf-below}
+use Rattle.model.proofs.Steps.{answered-made}
+use Rattle.model.proofs.Histories.{run-done, made-more, inv, call-changes}
+
+module _ (π : Counts) (homes : List ℕ) where
+  -- a write leaves its vector with the crew, a read the entrywise maximum
+  write-crew : (h : List Call) (c k v : ℕ) → refusal π (run π homes h) (write c k v) ≡ 0 → run π homes (write c k v ∷ h) .crew c ≡ made π c k v (run π homes h) .vector
+  unfolding acted send emit keep setShelf setCrew
+  write-crew h c k v e = ap (λ (σ : State). σ .crew c) (run-done π homes h (write c k v) e) ∙ put-same c _ _
+
+  read-crew : (h : List Call) (c k : ℕ) → refusal π (run π homes h) (read c k) ≡ 0 → run π homes (read c k ∷ h) .crew c ≡ merged (run π homes h .crew c) (answered π c k (run π homes h) .vector)
+  unfolding acted reading answered homeShelf setShelf setCrew
+  read-crew h c k e = ap (λ (σ : State). σ .crew c) (run-done π homes h (read c k) e) ∙ put-same c _ _
+
+  -- a write is above its author's vector when it was made
+  made-above : {h g : List Call} {b : ℕ} {w : Write} → MadeAt π homes h g b w → (x : ℕ) → run π homes g .crew b x ≤ w .version .vector x
+  made-above (now {h = g} {q = q} {c = b} {w = w} t) x = subst (λ (y : Version). run π homes g .crew b x ≤ y .vector x) (sym (t .version)) (up x)
+    where
+      p : refusal π (run π homes g) (write b (w .bearing) (t .value)) ≡ 0
+      p = subst (λ y. refusal π (run π homes g) y ≡ 0) (t .call) (t .passed)
+
+      up : (x : ℕ) → run π homes g .crew b x ≤ made π b (w .bearing) (t .value) (run π homes g) .vector x
+      up = unfold made in put-all (λ x y. run π homes g .crew b x ≤ y) _ (le-trans (write-passed π _ b _ _ p .ready) (omega arith)) (λ x apart. le-refl _)
+  made-above (earlier t) x = made-above t x
+
+  wrote-below : {h : List Call} {q : Call} {c : ℕ} {w : Write} → Wrote π homes h q c w → (x : ℕ) → w .version .vector x ≤ run π homes (q ∷ h) .crew c x
+  wrote-below {h} {q} {c} {w} t x = subst (λ y. w .version .vector x ≤ run π homes (y ∷ h) .crew c x) (sym (t .call))
+      (same (ap (λ (v : Version). v .vector x) (t .version) ∙ sym (ap (λ (v : Vec). v x)
+      (write-crew h c (w .bearing) (t .value) (subst (λ y. refusal π (run π homes h) y ≡ 0) (t .call) (t .passed))))))
+    where
+      same : {a b : ℕ} → a ≡ b → a ≤ b
+      same e = omega arith
+
+  got-below : {h : List Call} {q : Call} {c : ℕ} {w : Write} → Got π homes h q c w → (x : ℕ) → w .version .vector x ≤ run π homes (q ∷ h) .crew c x
+  unfolding merged
+  got-below {h} {q} {c} {w} t x = subst (λ y. w .version .vector x ≤ run π homes (y ∷ h) .crew c x) (sym (t .call))
+      (under-max (run π homes h .crew c x) (ap (λ (v : Version). v .vector x) (t .version))
+      (ap (λ (v : Vec). v x) (read-crew h c (w .bearing) (subst (λ y. refusal π (run π homes h) y ≡ 0) (t .call) (t .passed)))))
+    where
+      under-max : {a b n : ℕ} (m : ℕ) → a ≡ b → n ≡ max m b → a ≤ n
+      under-max m e f = omega arith
+
+  made-since : {h g : List Call} {b : ℕ} {v w : Write} → MadeAt π homes h g b v → Made π homes g w → Made π homes h w
+  made-since (now t) m = made-more π homes _ m
+  made-since (earlier t) m = made-more π homes _ (made-since t m)
+
+  module _ (u : SetUp π homes) where
+    pub past-below : {h : List Call} {c : ℕ} {w : Write} → Past π homes h c w → (x : ℕ) → w .version .vector x ≤ run π homes h .crew c x
+    past-below (wrote t) x = wrote-below t x
+    past-below (got t) x = got-below t x
+    past-below (kept {h = h} {q = q} {c = c} p) x = le-trans (past-below p x) (call-changes π homes u h q .grows .crew c x)
+    past-below (under p m r) x = le-trans (past-below r x) (le-trans (made-above m x) (past-below p x))
+
+    -- what a crew read was made
+    got-made : {h : List Call} {q : Call} {c : ℕ} {w : Write} → Got π homes h q c w → Made π homes h w
+    got-made {h} {q} {c} {w} t = ⊎-elim
+        (λ a. absurd (both-ways (subst (λ (v : Version). zeros (π .depots) (v .vector) ≡ true) (sym (t .version)) a) (t .written)))
+        (λ m. subst (λ (v : Version). Made π homes h (record { bearing = w .bearing; version = v })) (sym (t .version)) m)
+        (answered-made π (Made π homes h) (run π homes h) (inv π homes u h .sound) (shelf-below π u) c (w .bearing)
+        (read-passed π _ c (w .bearing) (subst (λ y. refusal π (run π homes h) y ≡ 0) (t .call) (t .passed)) .crew))
+
+    pub past-made : {h : List Call} {c : ℕ} {w : Write} → Past π homes h c w → Made π homes h w
+    past-made (wrote t) = record { before = _; author = _; at = now t }
+    past-made (got t) = made-more π homes _ (got-made t)
+    past-made (kept p) = made-more π homes _ (past-made p)
+    past-made (under p m r) = made-since m (past-made r)
+
+    pub causal : {h : List Call} {c : ℕ} {w : Write} → Past π homes h c w → refusal π (run π homes h) (read c (w .bearing)) ≡ 0 → AtMost (π .depots) (w .version)
+        (answered π c (w .bearing) (run π homes h))
+    unfolding answered homeShelf
+    causal {h} {c} {w} p e = by (inv π homes u h .good w (past-made p) .stands d (rests .depot))
+      where
+        σ : State
+        σ = run π homes h
+
+        d : ℕ
+        d = σ .home c
+
+        s : ℕ
+        s = shelfOf π (w .bearing)
+
+        z : Sound π (Made π homes h) σ
+        z = inv π homes u h .sound
+
+        rests : Rests π σ d (σ .crew c)
+        rests = z .crews c (read-passed π σ c (w .bearing) e .crew)
+
+        by : Stands π σ w d → AtMost (π .depots) (w .version) (settled (π .depots) d (σ .crew c) (σ .shelf d s) .store (w .bearing))
+        by (stored t) = atMost-trans t (settled-rises (π .depots) d (σ .crew c) (σ .shelf d s) (w .bearing))
+        by (held o m) = settled-has (π .depots) d (σ .crew c) (σ .shelf d s) (w .version .origin) (o .below) m
+            (unfold clear in covered-intro (π .depots) d _ _ (λ x hx apart. le-trans (past-below p x) (raised-offered (π .depots) d (σ .crew c) _ x (record { below = hx; apart = apart }))))
+        by (coming o m) = absurd (unfold stampOf in
+            let a = chain-member _ _ _ (z .chain d s (w .version .origin) (rests .depot) (shelf-below π u (w .bearing)) o) m in
+            let b = past-below p (w .version .origin) in
+            let f = rests .seen s (w .version .origin) (shelf-below π u (w .bearing)) o in
+            omega arith)

@@ -1,0 +1,165 @@
+-- The calls: what each answers and leaves, when it is refused, and histories of calls from a fresh register.
+-- Assumes nothing.
+use Prim.Native.Nat.{ℕ, zero, suc, _%_}
+use mathlib.Core.Bool.{Bool, true, false, _||_, not, _&&_}
+use mathlib.Core.List.{List, [], _∷_, _++_}
+use lib.Dec.{eqb, ltb, leb}
+use lib.ListN.{length, getD}
+use Rattle.order.specs.Loops.{every, pick}
+use Rattle.order.specs.Vector.{Vec, merged, zeros}
+use Rattle.order.specs.Order.{above}
+use Rattle.model.specs.Parts.{Counts, Version, Write, Message, copy, heartbeat, Shelf, State, put, rank, fresh, setShelf, setCrew, end}
+use Rattle.model.specs.Rules.{settled, settle, keep, send, roomy, taking, lowestSeen}
+
+-- read (crew, bearing), write (crew, bearing, value), tick (depot, shelf), take (at depot, shelf, from depot), refresh (depot, shelf)
+pub data Call : Type 0 where
+  read : ℕ → ℕ → Call
+  write : ℕ → ℕ → ℕ → Call
+  tick : ℕ → ℕ → Call
+  take : ℕ → ℕ → ℕ → Call
+  refresh : ℕ → ℕ → Call
+
+-- a refusal carries its number and nothing else; a read answers the value or "unwritten", with the vector; a write its stamp, and
+-- "current" or "superseded"
+pub data Answer : Type 0 where
+  refused : ℕ → Answer
+  done : Answer
+  read-value : ℕ → List ℕ → Answer
+  read-unwritten : List ℕ → Answer
+  current superseded : ℕ → Answer
+
+-- an answer and the state after it
+pub record Outcome : Type 0 where
+  pub answer : Answer
+  pub state : State
+
+-- the first n entries of a vector
+unfoldable pub entries : ℕ → Vec → List ℕ
+entries zero u = []
+entries (suc i) u = entries i u ++ (u i ∷ [])
+
+-- a read's answer to the stored version v
+unfoldable pub told : ℕ → Version → Answer
+told n v = pick (zeros n (v .vector)) (read-unwritten (entries n (v .vector))) (read-value (v .value) (entries n (v .vector)))
+
+-- the number of the first test that holds, 0 where none does
+unfoldable pub first : List (Bool × ℕ) → ℕ
+first [] = 0
+first (t ∷ l) = pick (t .0) (t .1) (first l)
+
+-- no untaken message
+unfoldable pub none : List Message → Bool
+none [] = true
+none (m ∷ l) = false
+
+-- setup, of four counts and a list of homes: 11 where a count is out of range or there are not C homes, 2 where a home is D or more
+unfoldable pub within : ℕ → ℕ → Bool
+within x most = leb 1 x && leb x most
+
+unfoldable pub setup : Counts → List ℕ → ℕ
+setup π homes = first
+    ((not (within (π .depots) 4 && (within (π .shelves) 4 && (within (π .bearings) 64 && (within (π .crews) 16 && eqb (length homes) (π .crews))))), 11)
+    ∷ ((not (every (π .crews) (λ c. ltb (getD homes c 0) (π .depots))), 2)
+    ∷ []))
+
+module _ (π : Counts) where
+  -- bearing k lies on shelf k mod P of every depot
+  unfoldable pub shelfOf : ℕ → ℕ
+  shelfOf k = k % π .shelves
+
+  -- the shelf that a crew meets at home, raised with its vector and shown
+  unfoldable pub homeShelf : ℕ → ℕ → State → Shelf
+  homeShelf c k σ = settled (π .depots) (σ .home c) (σ .crew c) (σ .shelf (σ .home c) (shelfOf k))
+
+  -- the version that a read answers with
+  unfoldable pub answered : ℕ → ℕ → State → Version
+  answered c k σ = homeShelf c k σ .store k
+
+  -- the version that a write makes: the crew's vector, with the home entry set to the new clock
+  unfoldable pub made : ℕ → ℕ → ℕ → State → Version
+  made c k value σ = record {
+    value = value;
+    origin = σ .home c;
+    vector = put (σ .home c) (suc (σ .shelf (σ .home c) (shelfOf k) .clock)) (σ .crew c);
+  }
+
+  -- when the desk says no: the checks of each call, in their order
+  unfoldable pub refusal : State → Call → ℕ
+  refusal σ (read c k) = first
+      ((leb (π .crews) c, 5)
+      ∷ ((leb (π .bearings) k, 4)
+      ∷ []))
+  refusal σ (write c k value) = first
+      ((leb (π .crews) c, 5)
+      ∷ ((leb (π .bearings) k, 4)
+      ∷ ((ltb (σ .shelf (σ .home c) (shelfOf k) .clock) (σ .crew c (σ .home c)), 8)
+      ∷ ((leb end (σ .shelf (σ .home c) (shelfOf k) .clock), 10)
+      ∷ ((not (roomy π (σ .home c) (shelfOf k) σ), 9)
+      ∷ [])))))
+  refusal σ (tick d s) = first
+      ((leb (π .depots) d, 2)
+      ∷ ((leb (π .shelves) s, 3)
+      ∷ ((leb end (σ .shelf d s .clock), 10)
+      ∷ ((not (roomy π d s σ), 9)
+      ∷ []))))
+  refusal σ (take d s from) = first
+      ((leb (π .depots) d || leb (π .depots) from, 2)
+      ∷ ((leb (π .shelves) s, 3)
+      ∷ ((eqb d from, 6)
+      ∷ ((none (σ .shelf d s .untaken from), 7)
+      ∷ []))))
+  refusal σ (refresh d s) = first
+      ((leb (π .depots) d, 2)
+      ∷ ((leb (π .shelves) s, 3)
+      ∷ []))
+
+  -- a read, its home shelf h raised and shown: it answers what h stores, and the crew's vector becomes the entrywise maximum with it
+  unfoldable pub reading : ℕ → ℕ → State → Shelf → Outcome
+  reading c k σ h = record {
+    answer = told (π .depots) (h .store k);
+    state = setCrew c (merged (σ .crew c) (h .store k .vector)) (setShelf (σ .home c) (shelfOf k) h σ);
+  }
+
+  -- what a call answers and does where it is not refused
+  unfoldable pub acted : State → Call → Outcome
+  acted σ (read c k) = reading c k σ (homeShelf c k σ)
+  acted σ (write c k value) =
+      let d = σ .home c in
+      let s = shelfOf k in
+      let v = made c k value σ in
+      let w : Write = record { bearing = k; version = v } in
+      record {
+        answer = pick (above (π .depots) (rank v) (rank (answered c k σ))) (current (v .vector d)) (superseded (v .vector d));
+        state = send π d s (copy w) (keep π d s w (setCrew c (v .vector) (settle π d s (σ .crew c) σ)));
+      }
+  acted σ (tick d s) = record {
+    answer = done;
+    state = send π d s (heartbeat (suc (σ .shelf d s .clock))) σ;
+  }
+  acted σ (take d s from) = record {
+    answer = done;
+    state = setShelf d s (taking from (σ .shelf d s .untaken from) (σ .shelf d s)) σ;
+  }
+  acted σ (refresh d s) = record {
+    answer = done;
+    state = settle π d s (lowestSeen π d σ) σ;
+  }
+
+  -- a call: a refused one changes nothing
+  unfoldable pub step : State → Call → Outcome
+  step σ q = pick (eqb (refusal σ q) 0) (acted σ q) (record { answer = refused (refusal σ q); state = σ })
+
+  -- what a history of calls, newest first, leaves of a fresh register
+  unfoldable pub run : List ℕ → List Call → State
+  run homes [] = fresh homes
+  run homes (q ∷ h) = step (run homes h) q .state
+
+  -- the answers to calls, oldest first
+  unfoldable pub answers : State → List Call → List Answer
+  answers σ [] = []
+  answers σ (q ∷ l) = step σ q .answer ∷ answers (step σ q .state) l
+
+  -- the state after calls, oldest first
+  unfoldable pub ends : State → List Call → State
+  ends σ [] = σ
+  ends σ (q ∷ l) = ends (step σ q .state) l

@@ -1,0 +1,106 @@
+-- The worked cases that speak of the model: the listing with (a) to (c), and (f), (g).
+-- Assumes nothing.
+use Prim.Native.Nat.{ℕ, zero, suc}
+use mathlib.Core.List.{List, [], _∷_, _++_}
+use Rattle.model.specs.Parts.{Counts, fresh}
+use Rattle.model.specs.Calls.{Call, read, write, tick, take, refresh, Answer, refused, done, read-value, read-unwritten, current, superseded, run, ends}
+
+-- S 2 2 4 2 0 1: two depots, two shelves, four bearings, two crews with homes 0 and 1
+unfoldable pub counts : Counts
+counts = record { depots = 2; shelves = 2; bearings = 4; crews = 2 }
+
+unfoldable pub homes : List ℕ
+homes = 0 ∷ (1 ∷ [])
+
+-- the vector (a, b)
+abbrev pub pair : ℕ → ℕ → List ℕ
+pair a b = a ∷ (b ∷ [])
+
+-- the listing's calls after its setup line, then those of (a) and (b), oldest first
+unfoldable pub listingToB : List Call
+listingToB =
+    read 0 0 ∷ (write 0 0 20 ∷ (write 0 1 30 ∷ (tick 0 1 ∷ (write 0 1 30 ∷ (take 1 0 0 ∷ (refresh 1 0 ∷ (read 1 0 ∷ (take 1 1 0 ∷ (refresh 1 0 ∷ (read 1 0
+    ∷ (take 1 1 0 ∷ (refresh 1 1 ∷ (read 1 1
+    ∷ (tick 0 0 ∷ (take 1 0 0 ∷ (refresh 1 1 ∷ (read 1 1
+    ∷ [])))))))))))))))))
+
+-- then that of (c): crew 1 reads bearing 0
+unfoldable pub listing : List Call
+listing = listingToB ++ (read 1 0 ∷ [])
+
+unfoldable pub listingAnswers : List Answer
+listingAnswers =
+    read-unwritten (pair 0 0) ∷ (current 1 ∷ (refused 8 ∷ (done ∷ (current 2 ∷ (done ∷ (done ∷ (read-unwritten (pair 0 0) ∷ (done ∷ (done ∷ (read-value 20 (pair 1 0)
+    ∷ (done ∷ (done ∷ (read-unwritten (pair 0 0)
+    ∷ (done ∷ (done ∷ (done ∷ (read-value 30 (pair 2 0)
+    ∷ (read-value 20 (pair 1 0)
+    ∷ []))))))))))))))))))
+
+-- (c) there shelf 0's stable entry for depot 0, at depot 1, rises from 1 to 2: it is this after calls, oldest first
+unfoldable pub stableAfter : List Call → ℕ
+stableAfter l = ends counts (fresh homes) l .shelf 1 0 .stable 0
+
+-- (d) crew 1 then writes bearing 0: stamp 1, current
+unfoldable pub caseD : List Call
+caseD = listing ++ (write 1 0 40 ∷ [])
+
+unfoldable pub caseDAnswers : List Answer
+caseDAnswers = listingAnswers ++ (current 1 ∷ [])
+
+-- (e) or, at the listing's end but with its last read left out, crew 1 writes bearing 0: superseded, and 20 stays
+unfoldable pub caseE : List Call
+caseE =
+    read 0 0 ∷ (write 0 0 20 ∷ (write 0 1 30 ∷ (tick 0 1 ∷ (write 0 1 30 ∷ (take 1 0 0 ∷ (refresh 1 0 ∷ (read 1 0 ∷ (take 1 1 0 ∷ (refresh 1 0
+    ∷ (write 1 0 40 ∷ (read 1 0
+    ∷ [])))))))))))
+
+unfoldable pub caseEAnswers : List Answer
+caseEAnswers =
+    read-unwritten (pair 0 0) ∷ (current 1 ∷ (refused 8 ∷ (done ∷ (current 2 ∷ (done ∷ (done ∷ (read-unwritten (pair 0 0) ∷ (done ∷ (done
+    ∷ (superseded 1 ∷ (read-value 20 (pair 1 0)
+    ∷ [])))))))))))
+
+-- every shelf refreshed, then every shelf ticked
+abbrev pub refreshesAndTicks : List Call
+refreshesAndTicks = refresh 0 0 ∷ (refresh 0 1 ∷ (refresh 1 0 ∷ (refresh 1 1 ∷ (tick 0 0 ∷ (tick 0 1 ∷ (tick 1 0 ∷ (tick 1 1 ∷ [])))))))
+
+abbrev pub eightDone : List Answer
+eightDone = done ∷ (done ∷ (done ∷ (done ∷ (done ∷ (done ∷ (done ∷ (done ∷ [])))))))
+
+-- (f) fresh: crew 0 writes bearing 0 := 7, (1, 0); crew 1 writes it := 9, (0, 1); after two rounds, each taking until EMPTY LINK, both depots read 7
+unfoldable pub caseF : List Call
+caseF =
+    (write 0 0 7 ∷ (write 1 0 9 ∷ []))
+    ++ ((take 1 0 0 ∷ (take 1 0 0 ∷ (take 1 1 0 ∷ (take 0 0 1 ∷ (take 0 0 1 ∷ (take 0 1 1 ∷ []))))))
+    ++ (refreshesAndTicks
+    ++ ((take 1 0 0 ∷ (take 1 0 0 ∷ (take 1 1 0 ∷ (take 1 1 0 ∷ (take 0 0 1 ∷ (take 0 0 1 ∷ (take 0 1 1 ∷ (take 0 1 1 ∷ []))))))))
+    ++ (refreshesAndTicks
+    ++ (read 0 0 ∷ (read 1 0 ∷ []))))))
+
+unfoldable pub caseFAnswers : List Answer
+caseFAnswers =
+    (current 1 ∷ (current 1 ∷ []))
+    ++ ((done ∷ (refused 7 ∷ (refused 7 ∷ (done ∷ (refused 7 ∷ (refused 7 ∷ []))))))
+    ++ (eightDone
+    ++ ((done ∷ (refused 7 ∷ (done ∷ (refused 7 ∷ (done ∷ (refused 7 ∷ (done ∷ (refused 7 ∷ []))))))))
+    ++ (eightDone
+    ++ (read-value 7 (pair 1 0) ∷ (read-value 7 (pair 1 0) ∷ []))))))
+
+-- (g) fresh: 16 ticks of depot 0 shelf 0 pass; the 17th is LINK FULL, clock still 16; one take, and the tick passes, clock 17
+unfoldable pub manyTicks : ℕ → List Call
+manyTicks zero = []
+manyTicks (suc n) = tick 0 0 ∷ manyTicks n
+
+unfoldable pub manyDone : ℕ → List Answer
+manyDone zero = []
+manyDone (suc n) = done ∷ manyDone n
+
+unfoldable pub caseG : List Call
+caseG = manyTicks 17 ++ (take 1 0 0 ∷ (tick 0 0 ∷ []))
+
+unfoldable pub caseGAnswers : List Answer
+caseGAnswers = manyDone 16 ++ (refused 9 ∷ (done ∷ (done ∷ [])))
+
+-- the clock of depot 0 shelf 0 after a history, newest call first
+unfoldable pub clockAfter : List Call → ℕ
+clockAfter h = run counts homes h .shelf 0 0 .clock

@@ -1,0 +1,5 @@
+pub mod Parts
+pub mod Rules
+pub mod Calls
+pub mod Cases
+pub mod Demands
