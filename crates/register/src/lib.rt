@@ -1,0 +1,2 @@
+// The register: six calls over one lent book.
+pub mod answer;
