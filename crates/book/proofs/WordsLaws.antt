@@ -10,7 +10,7 @@ use mathlib.Core.Logic.{_⊎_, inl, inr}
 use mathlib.Core.List.{List, [], _∷_, _++_}
 use lib.ListN.{length, getD, take, drop, set, replicate, length-take, length-drop, length-set, length-replicate, replicate-append-replicate}
 use lib.Seq.{sets, length-sets, getD-take, getD-drop, getD-set-same, getD-set-other, take-suc, length-take-le, ext-getD}
-use Rattle.book.specs.Words.{part, put, Apart}
+use Rattle.book.specs.Words.{part, put, Apart, Forward}
 
 module _ (l : List ℕ) where
   pub length-part : (a n : ℕ) → a + n ≤ length l → length (part l a n) ≡ n
@@ -111,19 +111,19 @@ write-step l a v i h q =
     put-step l a (take i v) i (getD v i 0) (length-take-le i v (le-of-lt h)) q ∙ ap (put l a) (sym (ap (λ (k : ℕ). take k v) (add-one i) ∙ take-suc v i 0 h))
 
 pub copy-step :
-    (l : List ℕ) (a c n i : ℕ) {b : List ℕ} → i < n → a + n ≤ length l → Apart a n c n → b ≡ put l c (part l a i) →
+    (l : List ℕ) (a c n i : ℕ) {b : List ℕ} → i < n → a + n ≤ length l → Forward a c n → b ≡ put l c (part l a i) →
     set b (c + i) (getD b (a + i) 0) ≡ put l c (part l a (i + 1))
-copy-step l a c n i {b} h room apart q =
-    ap (λ (w : ℕ). set b (c + i) w) (ap (λ (m : List ℕ). getD m (a + i) 0) q ∙ put-out l c (part l a i) (a + i) (outside apart))
+copy-step l a c n i {b} h room forward q =
+    ap (λ (w : ℕ). set b (c + i) w) (ap (λ (m : List ℕ). getD m (a + i) 0) q ∙ put-out l c (part l a i) (a + i) (outside forward))
     ∙ put-step l c (part l a i) i (getD l (a + i) 0) size q
     ∙ ap (put l c) (sym (part-more l a i (omega arith)))
   where
     size : length (part l a i) ≡ i
     size = length-part l a i (omega arith)
 
-    outside : Apart a n c n → (a + i < c) ⊎ (c + length (part l a i) ≤ a + i)
-    outside (inl p) = inl (omega arith)
-    outside (inr p) = inr (rw size (omega arith))
+    outside : Forward a c n → (a + i < c) ⊎ (c + length (part l a i) ≤ a + i)
+    outside (inl p) = inr (rw size (omega arith))
+    outside (inr p) = inl (omega arith)
 
 pub zero-step : (l : List ℕ) (a i : ℕ) {b : List ℕ} → b ≡ put l a (replicate i 0) → set b (a + i) 0 ≡ put l a (replicate (i + 1) 0)
 zero-step l a i q = put-step l a (replicate i 0) i 0 (length-replicate i 0) q ∙ ap (put l a) (replicate-append-replicate i 1 0)

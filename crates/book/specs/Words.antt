@@ -17,3 +17,7 @@ put l a v = sets l a v
 -- the n words from a on and the m words from b on have none in common
 abbrev pub Apart : ℕ → ℕ → ℕ → ℕ → Type 0
 Apart a n b m = (a + n ≤ b) ⊎ (b + m ≤ a)
+
+-- the n words from a on can be copied to the place b on, one after the other: no word is written before it is read
+abbrev pub Forward : ℕ → ℕ → ℕ → Type 0
+Forward a b n = (b ≤ a) ⊎ (a + n ≤ b)

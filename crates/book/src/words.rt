@@ -2,7 +2,7 @@
 ghost use mathlib.Core.Path.{_≡_};
 ghost use Prim.Native.Nat.{_+_, _≤_};
 ghost use lib.ListN.{length, replicate};
-ghost use Rattle.book.specs.Words.{part, put, Apart};
+ghost use Rattle.book.specs.Words.{part, put, Forward};
 
 // The words stand from `at` on.
 pub fn write_words(book: &mut [u32], at: usize, words: &[u32])
@@ -16,9 +16,9 @@ pub fn write_words(book: &mut [u32], at: usize, words: &[u32])
     }
 }
 
-// The n words from `from` on stand from `to` on, too; the two runs lie apart.
+// The n words from `from` on stand from `to` on, too; no word may be written before it is read.
 pub fn copy_words(book: &mut [u32], from: usize, to: usize, n: usize)
-    requires { ⌜ (from + n ≤ length (now book)) × (to + n ≤ length (now book)) × Apart from n to n ⌝ }
+    requires { ⌜ (from + n ≤ length (now book)) × (to + n ≤ length (now book)) × Forward from to n ⌝ }
     ensures { λ r. ⌜ now (book .exit) ≡ put (now (book .entry)) to (part (now (book .entry)) from n) ⌝ }
 {
     let mut i = 0;

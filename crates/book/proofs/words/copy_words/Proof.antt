@@ -1,4 +1,4 @@
--- `book::words::copy_words` meets its contract. The loop's invariant: the words passed are copied; what is still to be copied lies apart, so it is as it was.
+-- `book::words::copy_words` meets its contract. The loop's invariant: the words passed are copied; no word is written before it is read.
 -- Assumes nothing.
 use Prim.Native.Nat.{_≤_, _-_}
 use native.Mathlib.Nat.{le-antisymm}
