@@ -2,14 +2,15 @@
 -- writer leaves alone comes from `put-other`.
 -- Assumes nothing.
 use Prim.Native.Nat.{ℕ, zero, suc, _+_, _-_, _≤_, _<_, min}
-use native.Mathlib.Nat.{add-zero, add-suc, suc-add, le-refl, le-of-lt}
+use native.Mathlib.Nat.{add-zero, add-suc, suc-add, le-refl, le-of-lt, sub-zero, zero-sub, suc-sub-suc}
 use native.Mathlib.Numerals.{add-one}
 use native.Mathlib.Omega.{arith}
 use mathlib.Core.Path.{_≡_, refl, sym, _∙_, ap, subst}
 use mathlib.Core.Logic.{_⊎_, inl, inr}
 use mathlib.Core.List.{List, [], _∷_, _++_}
 use lib.ListN.{length, getD, take, drop, set, replicate, length-take, length-drop, length-set, length-replicate, replicate-append-replicate}
-use lib.Seq.{sets, length-sets, getD-take, getD-drop, getD-set-same, getD-set-other, take-suc, length-take-le, ext-getD}
+use lib.Seq.{sets, length-sets, getD-take, getD-drop, getD-set-same, getD-set-other, take-suc, length-take-le, take-take, take-nil, drop-drop, ext-getD}
+use Rattle.order.proofs.BoolLaws.{le-or-lt}
 use Rattle.book.specs.Words.{part, put, Apart, Forward}
 
 module _ (l : List ℕ) where
@@ -88,6 +89,18 @@ part-same l m a n e h =
     below : (i : ℕ) → i < length (part l a n) → i < n
     below i k = let t : length (part l a n) ≡ min n (length (drop a l)) = (unfold part in length-take n (drop a l)) in omega arith
 
+-- a part of a part
+pub part-part : (l : List ℕ) (a n b m : ℕ) → b + m ≤ n → part (part l a n) b m ≡ part l (a + b) m
+unfolding part
+part-part l a n b m h =
+    ap (take m) (drop-take n b (drop a l)) ∙ take-take m (n - b) (drop b (drop a l)) (omega arith) ∙ ap (take m) (drop-drop b a l)
+  where
+    drop-take : (n b : ℕ) (k : List ℕ) → drop b (take n k) ≡ take (n - b) (drop b k)
+    drop-take n zero k = ap (λ (x : ℕ). take x k) (sym (sub-zero n))
+    drop-take zero (suc b) k = refl ∙ sym (ap (λ (x : ℕ). take x (drop (suc b) k)) (zero-sub (suc b)))
+    drop-take (suc n) (suc b) [] = sym (take-nil (suc n - suc b))
+    drop-take (suc n) (suc b) (x ∷ k) = drop-take n b k ∙ ap (λ (y : ℕ). take y (drop b k)) (sym (suc-sub-suc n b))
+
 -- reads back what was written
 pub put-same : (l : List ℕ) (a : ℕ) (v : List ℕ) → a + length v ≤ length l → part (put l a v) a (length v) ≡ v
 put-same l a v room =
@@ -127,3 +140,20 @@ copy-step l a c n i {b} h room forward q =
 
 pub zero-step : (l : List ℕ) (a i : ℕ) {b : List ℕ} → b ≡ put l a (replicate i 0) → set b (a + i) 0 ≡ put l a (replicate (i + 1) 0)
 zero-step l a i q = put-step l a (replicate i 0) i 0 (length-replicate i 0) q ∙ ap (put l a) (replicate-append-replicate i 1 0)
+
+-- a part put where it stands changes nothing
+pub put-itself : (l : List ℕ) (a n : ℕ) → a + n ≤ length l → put l a (part l a n) ≡ l
+put-itself l a n room = ext-getD 0 _ l (length-put l a (part l a n)) λ j h. go j (le-or-lt a j) (le-or-lt (a + n) j)
+  where
+    size : length (part l a n) ≡ n
+    size = length-part l a n room
+
+    go : (j : ℕ) → (a ≤ j) ⊎ (j < a) → (a + n ≤ j) ⊎ (j < a + n) → getD (put l a (part l a n)) j 0 ≡ getD l j 0
+    go j (inr p) q = put-out l a (part l a n) j (inl p)
+    go j (inl p) (inl q) = put-out l a (part l a n) j (inr (rw size q))
+    go j (inl p) (inr q) =
+        let e : a + (j - a) ≡ j = omega arith in
+        ap (λ (x : ℕ). getD (put l a (part l a n)) x 0) (sym e)
+        ∙ put-in l a (part l a n) (rw size room) (j - a) (rw size (omega arith))
+        ∙ part-at l a n (j - a) (omega arith)
+        ∙ ap (λ (x : ℕ). getD l x 0) e

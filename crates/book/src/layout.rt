@@ -20,6 +20,9 @@ pub const BEARINGS: usize = 2;
 
 pub const CREWS: usize = 3;
 
+// How many bearings the layout has room for.
+pub const BEARING_ROOM: usize = 160;
+
 // How many messages a link has room for, the words of a slot, and the kinds of message.
 pub const LINK_ROOM: usize = 16;
 
