@@ -1,1 +1,4 @@
 mod ShelfCode
+pub mod FrameLaws
+pub mod ShowFrame
+pub mod SendFrame

@@ -1,2 +1,3 @@
 pub mod Show
 pub mod Send
+pub mod Asks
