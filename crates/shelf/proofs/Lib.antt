@@ -1,4 +1,4 @@
-mod ShelfCode
 pub mod FrameLaws
 pub mod ShowFrame
 pub mod SendFrame
+mod ShelfCode

@@ -1,24 +1,28 @@
 -- What the code of this crate does step by step, put together to the word functions of specs/. Only this crate sees it.
 -- Assumes nothing.
 use Prim.Native.Nat.{ℕ, _+_, _*_, _-_, _≤_, _<_}
-use native.Mathlib.Nat.{add-zero}
+use native.Mathlib.Nat.{add-zero, le-refl}
+use native.Mathlib.Numerals.{add-one}
 use native.Mathlib.Omega.{arith}
-use mathlib.Core.Path.{_≡_, refl, sym, _∙_, ap, ap₂}
+use mathlib.Core.Path.{_≡_, refl, sym, _∙_, ap, ap₂, subst}
 use mathlib.Core.List.{List}
 use mathlib.Core.Bool.{Bool, true, false}
 use lib.Dec.{lit≤}
-use lib.ListN.{getD, take, drop, replicate}
+use lib.ListN.{getD, set, take, drop, replicate}
 use lib.Seq.{getD-take, getD-drop}
-use Rattle.order.specs.Loops.{pick}
+use Rattle.order.specs.Loops.{times, pick}
 use Rattle.order.specs.Order.{above}
 use Rattle.order.specs.Vector.{Vec, vectorIn, covered}
 use Rattle.order.proofs.VectorLaws.{covered-same}
 use Rattle.order.specs.Record.{bearingOf, vectorOf, rankOf}
 use Rattle.order.proofs.BoolLaws.{pick-true, pick-false}
 use Rattle.book.specs.Words.{part, put}
-use Rattle.book.specs.Layout.{slotAt, storedAt, stableAt, stored, stable, slot, recordOf}
+use Rattle.book.specs.Layout.{slotAt, storedAt, stableAt, heldAt, takenAt, linkOf, stored, stable, slot, held, taken, recordOf}
 use Rattle.book.proofs.WordsLaws.{part-from, part-at, part-part}
-use Rattle.shelf.specs.Show.{keptIn, closedUp, sweepOne}
+use Rattle.shelf.specs.Asks.{Sound, Ready}
+use Rattle.shelf.specs.Show.{Sweep, keptIn, closedUp, withHead, sweepOne, swept, sweptUp, shownLink}
+use Rattle.shelf.proofs.FrameLaws.{swept-kept, swept-later}
+use Rattle.shelf.proofs.ShowFrame.{showTurn, show-turns-sound}
 
 -- the messages behind move down, then the free slots are cleared
 pub close-done :
@@ -99,3 +103,46 @@ pub sweep-moved :
     m ≡ put l (slotAt q kept) (slot l q i) → sweepOne n d s q i (record { words = l; kept = kept }) ≡ record { words = m; kept = kept + 1 }
 unfolding sweepOne
 sweep-moved n d s q i kept l c t p = pick-false _ _ (c ∙ t) ∙ (λ z. record { words = sym p z; kept = kept + 1 })
+
+pub sweep-none : (n d s q : ℕ) (l : List ℕ) → swept n d s q 0 l ≡ record { words = l; kept = 0 }
+unfolding swept times
+sweep-none n d s q l = refl
+
+pub sweep-more :
+    (n d s q i : ℕ) (l : List ℕ) {w v : Sweep} → swept n d s q i l ≡ w → sweepOne n d s q i w ≡ v → swept n d s q (i + 1) l ≡ v
+unfolding swept times
+sweep-more n d s q i l p o = ap (λ (x : ℕ). times x (sweepOne n d s q) (record { words = l; kept = 0 })) (add-one i) ∙ ap (sweepOne n d s q i) p ∙ o
+
+-- what is known before the turn of slot i
+pub sweep-kept : (n d s q i : ℕ) (l m : List ℕ) (k : ℕ) → swept n d s q i l ≡ record { words = m; kept = k } → k ≤ i
+sweep-kept n d s q i l m k e = subst (λ (w : Sweep). w .kept ≤ i) e (swept-kept n d s q l i)
+
+pub sweep-bearing :
+    (n d s q i : ℕ) (l m : List ℕ) (k : ℕ) → swept n d s q i l ≡ record { words = m; kept = k } → q < 64 → i < 16 → bearingOf (recordOf (slot l q i)) < 160 →
+    bearingOf (recordOf (slot m q i)) < 160
+sweep-bearing n d s q i l m k e hq hi b =
+    subst (λ (w : Sweep). bearingOf (recordOf (slot (w .words) q i)) < 160) e
+    (subst (λ (v : List ℕ). bearingOf (recordOf v) < 160) (sym (swept-later n d s q l i i hq hi (le-refl _))) b)
+
+-- ---- a link, and all the links of a shelf
+
+pub link-done :
+    (n d s from : ℕ) (l : List ℕ) {q h t k w₁ w₂ : ℕ} {m₁ m₂ m₃ : List ℕ} → q ≡ linkOf s from d → h ≡ held l q → t ≡ taken l q →
+    swept n d s q t l ≡ record { words = m₁; kept = k } → m₂ ≡ closedUp q k (t - k) h m₁ → w₁ ≡ h - (t - k) → w₂ ≡ k →
+    m₃ ≡ set (set m₂ (heldAt q) w₁) (takenAt q) w₂ → m₃ ≡ shownLink n d s from l
+unfolding shownLink sweptUp withHead
+link-done n d s from l {q} {h} {t} {k} {w₁} {w₂} {m₁} {m₂} {m₃} eq eh et es ec e₁ e₂ e₃ =
+    e₃
+    ∙ ap₃′ ec e₁ e₂
+    ∙ ap (sweptUp q h t) (sym es)
+    ∙ ap₂ (λ (x y : ℕ). sweptUp q x y (swept n d s q y l)) eh et
+    ∙ ap (λ (x : ℕ). sweptUp x (held l x) (taken l x) (swept n d s x (taken l x) l)) eq
+  where
+    ap₃′ :
+        {m m′ : List ℕ} {a a′ b b′ : ℕ} → m ≡ m′ → a ≡ a′ → b ≡ b′ → set (set m (heldAt q) a) (takenAt q) b ≡ set (set m′ (heldAt q) a′) (takenAt q) b′
+    ap₃′ p r o = λ i. set (set (p i) (heldAt q) (r i)) (takenAt q) (o i)
+
+-- what is known before the turn of a sender
+pub turn-sound :
+    (n d s from : ℕ) (l : List ℕ) {m : List ℕ} → Ready n d s l → from < n → m ≡ times from (showTurn n d s) l → (from ≡ d → ⊥) → Sound m (linkOf s from d)
+turn-sound n d s from l h k e o = subst (λ (v : List ℕ). Sound v (linkOf s from d)) (sym e) (show-turns-sound n d s l h from k o)

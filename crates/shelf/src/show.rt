@@ -19,13 +19,16 @@ use order::record::is_above;
 use order::vector::is_covered;
 use order::vector::merge;
 ghost use mathlib.Core.Path.{_≡_};
-ghost use Prim.Native.Nat.{_+_, _≤_, _<_};
+ghost use Prim.Native.Nat.{ℕ, _+_, _≤_, _<_};
+ghost use lib.Dec.{eqb};
+ghost use Rattle.order.specs.Loops.{pick};
 ghost use lib.ListN.{length};
 ghost use Rattle.order.specs.Record.{mostDepots, bearingOf, vectorOf};
 ghost use Rattle.order.specs.Vector.{vectorIn, covered, mergedAt};
 ghost use Rattle.book.specs.Words.{part, put};
-ghost use Rattle.book.specs.Layout.{bookWords, links, linkRoom, bearingRoom, mostShelves, stableAt, slotAt, slot, stable, recordOf};
-ghost use Rattle.shelf.specs.Show.{keptIn, sweepOne};
+ghost use Rattle.book.specs.Layout.{bookWords, links, linkRoom, bearingRoom, mostShelves, stableAt, slotAt, slot, stable, recordOf, linkOf};
+ghost use Rattle.shelf.specs.Show.{keptIn, sweepOne, swept, shownLink, shown, settled};
+ghost use Rattle.shelf.specs.Asks.{Sound, Ready};
 
 // The record that stands at a place replaces the stored version of its bearing, which is given, if it is greater.
 pub fn keep(book: &mut [u32], n: usize, d: Depot, k: Bearing, at: usize)
@@ -94,4 +97,73 @@ fn show_slot(
     }
     move_slot(book, q, i, kept);
     kept + 1
+}
+
+// The first `count` copies of a link, oldest first, each shown or moved down. Answers how many stay on the link.
+fn sweep(book: &mut [u32], n: usize, d: Depot, s: Shelf, q: Link, count: usize) -> usize
+    requires { ⌜ (length (now book) ≡ bookWords) × (n ≤ mostDepots) × (d .0 < mostDepots) × (s .0 < mostShelves) × (q .0 < links) × (count ≤ linkRoom) × ((i : ℕ) → i < count → bearingOf (recordOf (slot (now book) (q .0) i)) < bearingRoom) ⌝ }
+    ensures { λ r. ⌜ swept n (d .0) (s .0) (q .0) count (now (book .entry)) ≡ record { words = now (book .exit); kept = r } ⌝ }
+{
+    let mut kept = 0;
+    let mut i = 0;
+    while i < count {
+        kept = show_slot(book, n, d, s, q, i, kept);
+        i += 1;
+    }
+    kept
+}
+
+// A number below the room of a link, as a word.
+pub fn word(count: usize) -> u32
+    requires { ⌜ count ≤ linkRoom ⌝ }
+    ensures { λ r. ⌜ r ≡ count ⌝ }
+{
+    count as u32
+}
+
+// The incoming link from a depot is shown: its covered taken copies leave it, and the messages behind close up.
+fn show_link(book: &mut [u32], n: usize, d: Depot, s: Shelf, from: Depot)
+    requires { ⌜ (length (now book) ≡ bookWords) × (n ≤ mostDepots) × (d .0 < mostDepots) × (s .0 < mostShelves) × (from .0 < mostDepots) × Sound (now book) (linkOf (s .0) (from .0) (d .0)) ⌝ }
+    ensures { λ r. ⌜ now (book .exit) ≡ shownLink n (d .0) (s .0) (from .0) (now (book .entry)) ⌝ }
+{
+    let q = Link::between(s, from, d);
+    let held = held_of(book, q);
+    let taken = taken_of(book, q);
+    let kept = sweep(book, n, d, s, q, taken);
+    let gone = taken - kept;
+    close_up(book, q, kept, gone, held);
+    set_head(book, q, word(held - gone), word(kept));
+}
+
+// The incoming link from a depot is shown, unless that depot is this one.
+fn show_from(book: &mut [u32], n: usize, d: Depot, s: Shelf, from: Depot)
+    requires { ⌜ (length (now book) ≡ bookWords) × (n ≤ mostDepots) × (d .0 < mostDepots) × (s .0 < mostShelves) × (from .0 < mostDepots) × ((from .0 ≡ d .0 → ⊥) → Sound (now book) (linkOf (s .0) (from .0) (d .0))) ⌝ }
+    ensures { λ r. ⌜ now (book .exit) ≡ pick (eqb (from .0) (d .0)) (now (book .entry)) (shownLink n (d .0) (s .0) (from .0) (now (book .entry))) ⌝ }
+{
+    if from.index() == d.index() {
+        return;
+    }
+    show_link(book, n, d, s, from);
+}
+
+// From depot 0 on, each incoming link of a shelf is shown.
+fn show(book: &mut [u32], n: usize, d: Depot, s: Shelf)
+    requires { ⌜ (length (now book) ≡ bookWords) × Ready n (d .0) (s .0) (now book) ⌝ }
+    ensures { λ r. ⌜ now (book .exit) ≡ shown n (d .0) (s .0) (now (book .entry)) ⌝ }
+{
+    let mut from = 0;
+    while from < n {
+        show_from(book, n, d, s, Depot::nth(from, n));
+        from += 1;
+    }
+}
+
+// Raise and show: each other-depot entry of the stable vector becomes the larger of itself and what is offered; then each taken copy that is
+// covered is shown.
+pub fn settle(book: &mut [u32], n: usize, d: Depot, s: Shelf, offered: &[u32])
+    requires { ⌜ (length (now book) ≡ bookWords) × (length (now offered) ≡ mostDepots) × Ready n (d .0) (s .0) (now book) ⌝ }
+    ensures { λ r. ⌜ now (book .exit) ≡ settled n (d .0) (s .0) (vectorIn (now (offered .entry))) (now (book .entry)) ⌝ }
+{
+    merge(book, stable_at(d, s), offered, n, d.index());
+    show(book, n, d, s);
 }
