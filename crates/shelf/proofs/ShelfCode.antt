@@ -1,14 +1,15 @@
 -- What the code of this crate does step by step, put together to the word functions of specs/. Only this crate sees it.
 -- Assumes nothing.
 use Prim.Native.Nat.{ℕ, _+_, _*_, _-_, _≤_, _<_}
-use native.Mathlib.Nat.{add-zero, le-refl}
+use native.Mathlib.Nat.{add-zero, le-refl, le-of-eq}
 use native.Mathlib.Numerals.{add-one}
 use native.Mathlib.Omega.{arith}
 use mathlib.Core.Path.{_≡_, refl, sym, _∙_, ap, ap₂, subst}
 use mathlib.Core.List.{List}
 use mathlib.Core.Bool.{Bool, true, false}
 use lib.Dec.{lit≤}
-use lib.ListN.{getD, set, take, drop, replicate}
+use borrow.Author.Tests.{eq-eqb, ne-eqb}
+use lib.ListN.{length, getD, set, take, drop, replicate}
 use lib.Seq.{getD-take, getD-drop}
 use Rattle.order.specs.Loops.{times, pick}
 use Rattle.order.specs.Order.{above}
@@ -19,10 +20,12 @@ use Rattle.order.proofs.BoolLaws.{pick-true, pick-false}
 use Rattle.book.specs.Words.{part, put}
 use Rattle.book.specs.Layout.{slotAt, storedAt, stableAt, heldAt, takenAt, linkOf, stored, stable, slot, held, taken, recordOf}
 use Rattle.book.proofs.WordsLaws.{part-from, part-at, part-part}
-use Rattle.shelf.specs.Asks.{Sound, Ready}
+use Rattle.shelf.specs.Asks.{Sound, Ready, Free}
+use Rattle.shelf.specs.Send.{sentTo}
 use Rattle.shelf.specs.Show.{Sweep, keptIn, closedUp, withHead, sweepOne, swept, sweptUp, shownLink}
 use Rattle.shelf.proofs.FrameLaws.{swept-kept, swept-later}
 use Rattle.shelf.proofs.ShowFrame.{showTurn, show-turns-sound}
+use Rattle.shelf.proofs.SendFrame.{sentUpTo, held-up-to}
 
 -- the messages behind move down, then the free slots are cleared
 pub close-done :
@@ -146,3 +149,28 @@ link-done n d s from l {q} {h} {t} {k} {w₁} {w₂} {m₁} {m₂} {m₃} eq eh 
 pub turn-sound :
     (n d s from : ℕ) (l : List ℕ) {m : List ℕ} → Ready n d s l → from < n → m ≡ times from (showTurn n d s) l → (from ≡ d → ⊥) → Sound m (linkOf s from d)
 turn-sound n d s from l h k e o = subst (λ (v : List ℕ). Sound v (linkOf s from d)) (sym e) (show-turns-sound n d s l h from k o)
+
+-- ---- sending
+
+pub send-done :
+    (d s to : ℕ) (m l : List ℕ) {q h a i w : ℕ} {l₁ : List ℕ} → (to ≡ d → ⊥) → q ≡ linkOf s d to → h ≡ held l q → a ≡ slotAt q h → l₁ ≡ put l a m →
+    i ≡ heldAt q → w ≡ h + 1 → set l₁ i w ≡ sentTo d s m to l
+unfolding sentTo
+send-done d s to m l {q} {h} {a} {i} {w} {l₁} other eq eh ea el ei ew =
+    (λ z. set (el z) (ei z) (ew z))
+    ∙ ap (λ (x : ℕ). set (put l x m) (heldAt q) (h + 1)) ea
+    ∙ ap (λ (x : ℕ). set (put l (slotAt q x) m) (heldAt q) (x + 1)) eh
+    ∙ ap (λ (x : ℕ). set (put l (slotAt x (held l x)) m) (heldAt x) (held l x + 1)) eq
+    ∙ sym (pick-false _ _ (ne-eqb to d other))
+
+pub send-none : (d s to : ℕ) (m l : List ℕ) → to ≡ d → l ≡ sentTo d s m to l
+unfolding sentTo
+send-none d s to m l e = sym (pick-true _ _ (eq-eqb to d e))
+
+-- what is known before the turn of a receiver
+pub turn-room :
+    (n d s stamp i : ℕ) (m l : List ℕ) {b : List ℕ} → length m ≡ 10 → Free n d s l → i < n → b ≡ sentUpTo i d s stamp m l → (i ≡ d → ⊥) → held b (linkOf s d i) < 16
+turn-room n d s stamp i m l size h k e o =
+    let r = h .room i k o in
+    subst (λ (v : List ℕ). held v (linkOf s d i) < 16) (sym e)
+    (subst (λ (x : ℕ). x < 16) (sym (held-up-to n d s stamp m l (le-of-eq size) h i k)) r)

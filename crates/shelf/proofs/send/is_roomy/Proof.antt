@@ -1,59 +1,50 @@
+-- `shelf::send::is_roomy` meets its contract. The loop's invariant: the links passed have room.
+-- Assumes nothing.
+use Prim.Native.Nat.{ℕ, _≤_, _-_}
+use native.Mathlib.Nat.{le-antisymm}
+use mathlib.Core.Path.{_≡_, _∙_, sym, ap}
+use mathlib.Core.Bool.{true, _||_}
+use denote.Ref.{now}
+use lib.Dec.{eqb, ltb}
+use Rattle.order.specs.Loops.{every}
+use Rattle.order.proofs.BoolLaws.{test-passed, test-failed}
+use Rattle.order.proofs.LoopLaws.{every-none, every-more, every-stop}
+use Rattle.book.specs.Layout.{linkRoom, linkOf, held}
+use Rattle.shelf.specs.Send.{roomy}
+use borrow.Author.Needs.{needs}
 use Rattle.shelf.proofs.send.is_roomy.Statement.{statement}
 use Rattle.shelf.proofs.send.is_roomy.Tie as tie
-use Rattle.shelf.proofs.send.is_roomy.Reads as reads
-use Rattle.shelf.proofs.send.is_roomy.Lts as lts
-use Rattle.book.proofs.numbers.Depot.nth.Reads as nth-reads
-use Rattle.shelf.proofs.send.has_room.Reads as has-room-reads
 
 abbrev Inv-loop : tie.InvT-loop
-Inv-loop book n d s to₀ to = ?
+Inv-loop book n d s to₀ to = (to ≤ n) × (every to (λ x. eqb x (d .0) || ltb (held book (linkOf (s .0) (d .0) x)) linkRoom) ≡ true)
 
 abbrev μ-loop : tie.MeasureT-loop
-μ-loop book n d s to₀ to = ?
+μ-loop book n d s to₀ to = n - to
 
--- src/send.rt:45:5
+-- what the test of one link says
+room-said :
+    (c : tie.After-has-room Inv-loop μ-loop) →
+    let at = c .before .before .before in
+    let args = at .before .before .args in
+    c .has-room .result ≡ eqb (at .loop .to) (args .d .0) || ltb (held (now (args .book)) (linkOf (args .s .0) (args .d .0) (at .loop .to))) linkRoom
+room-said c =
+    let args = c .before .before .before .before .before .args in
+    c .has-room .ensures
+    ∙ ap (λ (x : ℕ). eqb x (args .d .0) || ltb (held (now (args .book)) (linkOf (args .s .0) (args .d .0) x)) linkRoom) (c .before .nth .ensures)
+
 loop-holds : tie.Need-loop-holds Inv-loop μ-loop
-loop-holds c = ?
+loop-holds c = (search needs, every-none _)
 
--- src/send.rt:46:34
-nth-requires : tie.Need-nth-requires Inv-loop μ-loop
-nth-requires c κs = ?
-
--- src/send.rt:46:13
-has-room-requires : tie.Need-has-room-requires Inv-loop μ-loop
-has-room-requires c κs = ?
-
--- src/send.rt:47:13
 returns : tie.Need-returns Inv-loop μ-loop
-returns c = ?
+unfolding roomy
+returns c = sym (every-stop _ _ _ (c .before .before .before .loop-test .taken) (test-failed (room-said (c .before)) (c .if1 .taken)))
 
--- src/send.rt:49:9
-add-to : tie.Need-add-to Inv-loop μ-loop
-add-to c = ?
-
--- src/send.rt:45:5
-loop-less : tie.Need-loop-less Inv-loop μ-loop
-loop-less c = ?
-
--- src/send.rt:45:5
 loop-again : tie.Need-loop-again Inv-loop μ-loop
-loop-again c = ?
+loop-again c = (search needs, every-more _ _ (c .before .before .before .before .loop .inv .1) (test-passed (room-said (c .before)) (c .if1 .left)))
 
--- src/send.rt:40:1
 returns-2 : tie.Need-returns-2 Inv-loop μ-loop
-returns-2 c = ?
+unfolding roomy
+returns-2 c = sym (rw (le-antisymm (c .before .loop .inv .0) (c .loop-test .left)) at (c .before .loop .inv .1))
 
 pub is-roomy-spec : {M : Type 1} → statement M
-is-roomy-spec =
-    tie.close
-    (tie.spec
-    Inv-loop
-    μ-loop
-    loop-holds
-    nth-requires
-    has-room-requires
-    returns
-    add-to
-    loop-less
-    loop-again
-    returns-2)
+is-roomy-spec = tie.close (tie.spec Inv-loop μ-loop loop-holds (λ c κs. search needs) (λ c κs. search needs) returns (λ c. search needs) (λ c. search needs) loop-again returns-2)

@@ -1,87 +1,49 @@
+-- `shelf::send::send_to` meets its contract: the message stands in the first free slot, and the head counts one more.
+-- Assumes nothing.
+use Prim.Native.Nat.{ℕ, _<_}
+use native.Mathlib.Omega.{arith}
+use mathlib.Core.Path.{_≡_, _∙_, sym, ap}
+use denote.Ref.{now}
+use lib.ListN.{length-set}
+use Rattle.book.specs.Layout.{held}
+use Rattle.shelf.proofs.ShelfCode.{send-done, send-none}
 use borrow.Author.Needs.{needs}
 use Rattle.shelf.proofs.send.send_to.Statement.{statement}
 use Rattle.shelf.proofs.send.send_to.Tie as tie
-use Rattle.shelf.proofs.send.send_to.Reads as reads
-use Rattle.shelf.proofs.send.send_to.Lts as lts
-use Rattle.book.proofs.layout.Link.between.Reads as between-reads
-use Rattle.book.proofs.layout.Link.held_at.Reads as held-at-reads
-use Rattle.book.proofs.layout.Link.slot_at.Reads as slot-at-reads
-use Rattle.book.proofs.numbers.Depot.index.Reads as index-reads
-use Rattle.book.proofs.parts.held_of.Reads as held-of-reads
-use Rattle.book.proofs.words.write_words.Reads as write-words-reads
-use Rattle.shelf.proofs.show.word.Reads as word-reads
 
--- src/send.rt:59:8
-index-requires : tie.Need-index-requires
-index-requires c κs = search needs
+-- the receiver is another depot, and its link has room
+other : (c : tie.Else1) → let args = c .before .before .before .before .before .args in args .to .0 ≡ args .d .0 → ⊥
+other c e = c .if1 .left (c .before .before .index .ensures ∙ e ∙ sym (c .before .index2 .ensures))
 
--- src/send.rt:59:22
-index-requires-2 : tie.Need-index-requires-2
-index-requires-2 c κs = search needs
+room : (c : tie.After-held-of) → c .held-of .result < 16
+room c =
+    let link = c .before .before in
+    let start = link .before .before .before .before .before .before in
+    let h = start .pre .5 (other (link .before)) in
+    let e = c .held-of .ensures ∙ ap (held (now (start .args .book))) (link .between .ensures) in
+    omega (arith, h, e)
 
--- src/send.rt:60:9
 returns : tie.Need-returns
-returns c = ?
+returns c = send-none _ _ _ _ _ (sym (c .before .before .index .ensures) ∙ c .if1 .taken ∙ c .before .index2 .ensures)
 
--- src/send.rt:62:9
-between-requires : tie.Need-between-requires
-between-requires c κs = search needs
-
--- src/send.rt:63:9
-held-of-requires : tie.Need-held-of-requires
-held-of-requires c κs = search needs
-
--- src/send.rt:64:23
 slot-at-requires : tie.Need-slot-at-requires
-slot-at-requires c κs = ?
+slot-at-requires c κs = let h = room (c .before) in (search needs, omega (arith, h))
 
--- src/send.rt:64:5
 write-words-requires : tie.Need-write-words-requires
-write-words-requires c κs = ?
+write-words-requires c κs = let h = room (c .before .before) in omega (arith, h, c .slot-at .ensures, c .before .before .before .before .between .ensures)
 
--- src/send.rt:65:30
 add-word : tie.Need-add-word
-add-word c = search needs
+add-word c = let h = room (c .before .before .before .before .before) in omega (arith, h)
 
--- src/send.rt:65:25
 word-requires : tie.Need-word-requires
-word-requires c κs = ?
+word-requires c κs = let h = room (c .before .before .before .before .before) in omega (arith, h)
 
--- src/send.rt:65:10
-held-at-requires : tie.Need-held-at-requires
-held-at-requires c κs = search needs
-
--- src/send.rt:65:5
-mul-book : tie.Need-mul-book
-mul-book c = search needs
-
--- src/send.rt:65:5
-slice-write-book : tie.Need-slice-write-book
-slice-write-book c = search needs
-
--- src/send.rt:55:1
-same-length : tie.Need-same-length
-same-length c = search needs
-
--- src/send.rt:55:1
 returns-2 : tie.Need-returns-2
-returns-2 c = ?
+returns-2 c =
+    let write = c .before .before .before .before in
+    let counted = write .before .before .before in
+    let link = counted .before .before in
+    send-done _ _ _ _ _ (other (link .before)) (link .between .ensures) (counted .held-of .ensures) (write .before .slot-at .ensures) (write .write-words .ensures) (c .held-at .ensures) (c .before .word .ensures)
 
 pub send-to-spec : {M : Type 1} → statement M
-send-to-spec =
-    tie.close
-    (tie.spec
-    index-requires
-    index-requires-2
-    returns
-    between-requires
-    held-of-requires
-    slot-at-requires
-    write-words-requires
-    add-word
-    word-requires
-    held-at-requires
-    mul-book
-    slice-write-book
-    same-length
-    returns-2)
+send-to-spec = tie.close (tie.spec (λ c κs. search needs) (λ c κs. search needs) returns (λ c κs. search needs) (λ c κs. search needs) slot-at-requires write-words-requires add-word word-requires (λ c κs. search needs) (λ c. search needs) (λ c. search needs) (λ c. search needs) returns-2)
