@@ -1,14 +1,14 @@
 -- What the code of this crate does step by step, put together to the word functions of specs/. Only this crate sees it.
 -- Assumes nothing.
-use Prim.Native.Nat.{ℕ, _+_, _*_, _-_, _≤_, _<_}
+use Prim.Native.Nat.{ℕ, _+_, _*_, _-_, _≤_, _<_, min}
 use native.Mathlib.Nat.{add-zero, le-refl, le-of-eq}
 use native.Mathlib.Numerals.{add-one}
 use native.Mathlib.Omega.{arith}
 use mathlib.Core.Path.{_≡_, refl, sym, _∙_, ap, ap₂, subst}
 use mathlib.Core.List.{List}
-use mathlib.Core.Bool.{Bool, true, false}
-use lib.Dec.{lit≤}
-use borrow.Author.Tests.{eq-eqb, ne-eqb}
+use mathlib.Core.Bool.{Bool, true, false, not, _&&_, and-false}
+use lib.Dec.{eqb, ltb, lit≤}
+use borrow.Author.Tests.{eq-eqb, ne-eqb, lt-ltb, le-ltb}
 use lib.ListN.{length, getD, set, take, drop, replicate}
 use lib.Seq.{getD-take, getD-drop}
 use Rattle.order.specs.Loops.{times, pick}
@@ -16,12 +16,13 @@ use Rattle.order.specs.Order.{above}
 use Rattle.order.specs.Vector.{Vec, vectorIn, covered}
 use Rattle.order.proofs.VectorLaws.{covered-same}
 use Rattle.order.specs.Record.{bearingOf, vectorOf, rankOf}
-use Rattle.order.proofs.BoolLaws.{pick-true, pick-false}
+use Rattle.order.proofs.BoolLaws.{pick-true, pick-false, and-intro, and-stop}
+use Rattle.order.proofs.LoopLaws.{times-none, times-more}
 use Rattle.book.specs.Words.{part, put}
-use Rattle.book.specs.Layout.{slotAt, storedAt, stableAt, heldAt, takenAt, linkOf, stored, stable, slot, held, taken, recordOf}
+use Rattle.book.specs.Layout.{slotAt, storedAt, stableAt, seenAt, heldAt, takenAt, linkOf, beatKind, stored, stable, slot, held, taken, kindOf, recordOf}
 use Rattle.book.proofs.WordsLaws.{part-from, part-at, part-part}
 use Rattle.shelf.specs.Asks.{Sound, Ready, Free}
-use Rattle.shelf.specs.Send.{sentTo}
+use Rattle.shelf.specs.Send.{end, sentTo, stampFrom, movedOn, took, lowest, lowestSeen}
 use Rattle.shelf.specs.Show.{Sweep, keptIn, closedUp, withHead, sweepOne, swept, sweptUp, shownLink}
 use Rattle.shelf.proofs.FrameLaws.{swept-kept, swept-later}
 use Rattle.shelf.proofs.ShowFrame.{showTurn, show-turns-sound}
@@ -174,3 +175,62 @@ turn-room n d s stamp i m l size h k e o =
     let r = h .room i k o in
     subst (λ (v : List ℕ). held v (linkOf s d i) < 16) (sym e)
     (subst (λ (x : ℕ). x < 16) (sym (held-up-to n d s stamp m l (le-of-eq size) h i k)) r)
+
+-- ---- taking
+
+-- the words of a message, where they stand in the book
+pub kind-place : (q i : ℕ) (l : List ℕ) {at : ℕ} → at ≡ slotAt q i → getD l at 0 ≡ kindOf (slot l q i)
+kind-place q i l {at} e = ap (λ (x : ℕ). getD l x 0) (e ∙ sym (add-zero (slotAt q i))) ∙ sym (part-at l (slotAt q i) 10 0 (lit≤ tt))
+
+pub beat-stamp : (q i from : ℕ) (l : List ℕ) {at : ℕ} {b : Bool} → at ≡ slotAt q i → b ≡ eqb (kindOf (slot l q i)) beatKind → b ≡ true → getD l (at + 1) 0 ≡ stampFrom from (slot l q i)
+unfolding stampFrom
+beat-stamp q i from l {at} e b t =
+    ap (λ (x : ℕ). getD l (x + 1) 0) e ∙ sym (part-at l (slotAt q i) 10 1 (lit≤ tt)) ∙ sym (pick-true _ _ (sym b ∙ t))
+
+pub copy-stamp :
+    (q i : ℕ) (l : List ℕ) {from own at : ℕ} {b : Bool} → from < 4 → at ≡ slotAt q i → own ≡ from → b ≡ eqb (kindOf (slot l q i)) beatKind → b ≡ false →
+    getD l (at + 6 + own) 0 ≡ stampFrom from (slot l q i)
+unfolding stampFrom
+copy-stamp q i l {from} {own} {at} h e o b t =
+    let place : at + 6 + own ≡ slotAt q i + (1 + (5 + from)) = omega arith in
+    ap (λ (x : ℕ). getD l x 0) place
+    ∙ sym (part-at (slot l q i) 1 9 (5 + from) (omega arith) ∙ part-at l (slotAt q i) 10 (1 + (5 + from)) (omega arith))
+    ∙ sym (pick-false _ _ (sym b ∙ t))
+
+pub take-done :
+    (d s from : ℕ) (l : List ℕ) {q h t v : ℕ} {b : Bool} {l₁ l₂ : List ℕ} → q ≡ linkOf s from d → h ≡ held l q → t ≡ taken l q →
+    b ≡ eqb (kindOf (slot l q t)) beatKind → v ≡ stampFrom from (slot l q t) → l₁ ≡ set l (seenAt d s + from) v →
+    l₂ ≡ pick b (set (closedUp q t 1 h l₁) (heldAt q) (h - 1)) (set l₁ (takenAt q) (t + 1)) → l₂ ≡ took d s from l
+unfolding took movedOn
+take-done d s from l {q} {h} {t} {v} {b} {l₁} {l₂} eq eh et eb ev e₁ e₂ =
+    e₂
+    ∙ (λ z. pick (eb z) (set (closedUp q t 1 h (seenNow z)) (heldAt q) (h - 1)) (set (seenNow z) (takenAt q) (t + 1)))
+    ∙ ap₂ (λ (x y : ℕ). movedOn q x y (slot l q y) (set l (seenAt d s + from) (stampFrom from (slot l q y)))) eh et
+    ∙ ap (λ (x : ℕ). movedOn x (held l x) (taken l x) (slot l x (taken l x)) (set l (seenAt d s + from) (stampFrom from (slot l x (taken l x))))) eq
+  where
+    seenNow : l₁ ≡ set l (seenAt d s + from) (stampFrom from (slot l q t))
+    seenNow = e₁ ∙ ap (set l (seenAt d s + from)) ev
+
+-- ---- the lowest stamp seen
+
+pub lowest-none : (d x : ℕ) (l : List ℕ) → end ≡ lowest 0 d x l
+unfolding lowest
+lowest-none d x l = times-none _ _
+
+pub lowest-more :
+    (s d x : ℕ) (l : List ℕ) {m r at i own : ℕ} → m ≡ lowest s d x l → r ≡ min m (getD l (at + own) 0) → at ≡ seenAt d i → i ≡ s → own ≡ x → r ≡ lowest (s + 1) d x l
+unfolding lowest
+lowest-more s d x l {m} p q a i o =
+    times-more s _ _ p (q ∙ ap₂ (λ (y z : ℕ). min m (getD l (y + z) 0)) (a ∙ ap (seenAt d) i) o)
+
+pub lowest-past : (n p d x : ℕ) (l : List ℕ) → n ≤ x → 0 ≡ lowestSeen n p d l x
+unfolding lowestSeen
+lowest-past n p d x l h = sym (pick-false _ _ (and-stop _ (le-ltb x n h)))
+
+pub lowest-own : (n p d x : ℕ) (l : List ℕ) → x ≡ d → 0 ≡ lowestSeen n p d l x
+unfolding lowestSeen
+lowest-own n p d x l e = sym (pick-false _ _ (ap (λ (b : Bool). ltb x n && not b) (eq-eqb x d e) ∙ and-false (ltb x n)))
+
+pub lowest-other : (n p d x : ℕ) (l : List ℕ) → x < n → (x ≡ d → ⊥) → lowest p d x l ≡ lowestSeen n p d l x
+unfolding lowestSeen
+lowest-other n p d x l h e = sym (pick-true _ _ (and-intro (lt-ltb x n h) (ap not (ne-eqb x d e))))

@@ -55,3 +55,7 @@ lowest p d x l = times p (λ s m. min m (seen l d s x)) end
 -- the same for each other depot, of n; 0 elsewhere
 unfoldable pub lowestSeen : ℕ → ℕ → ℕ → List ℕ → Vec
 lowestSeen n p d l x = pick (ltb x n && not (eqb x d)) (lowest p d x l) 0
+
+-- a vector's first four entries, the most there can be
+abbrev pub fourOf : Vec → List ℕ
+fourOf v = v 0 ∷ v 1 ∷ v 2 ∷ v 3 ∷ []
