@@ -1,1 +1,3 @@
 pub mod FitParts
+pub mod TableLaws
+pub mod KindLaws

@@ -1,4 +1,5 @@
 pub mod Answers
 pub mod Table
+pub mod Checks
 pub mod Calls
 pub mod Promises

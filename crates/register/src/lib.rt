@@ -1,2 +1,3 @@
 // The register: six calls over one lent book.
 pub mod answer;
+pub mod check;

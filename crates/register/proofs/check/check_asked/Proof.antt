@@ -1,0 +1,76 @@
+-- `register::check::check_asked` meets its contract: the three checks, in their order.
+-- Assumes nothing.
+use Prim.Native.Nat.{ℕ, _≤_, _<_}
+use mathlib.Core.Path.{_≡_, _∙_, sym, ap, subst}
+use mathlib.Core.Bool.{true}
+use denote.Ref.{now}
+use Rattle.order.specs.Loops.{pick}
+use Rattle.order.proofs.BoolLaws.{test-passed, test-failed}
+use Rattle.book.specs.declared.parts.Counts.{Counts}
+use Rattle.book.specs.Layout.{countsOf}
+use Rattle.book.specs.declared.numbers.Crew.{Crew}
+use Rattle.book.specs.declared.numbers.Bearing.{Bearing}
+use Rattle.fit.specs.Fit.{fit}
+use Rattle.fit.proofs.FitLaws.{fit-open}
+use Rattle.register.specs.declared.check.AskCheck.{AskCheck}
+use Rattle.register.specs.Answers.{refusalOf}
+use Rattle.register.specs.Checks.{askedOf}
+use Rattle.register.proofs.TableLaws.{asked-book, asked-crew, asked-key, asked-good}
+use Rattle.register.proofs.KindLaws.{good-crew, bad-crew, good-bearing, bad-bearing}
+use borrow.Author.Needs.{needs}
+use Rattle.register.proofs.check.check_asked.Statement.{statement}
+use Rattle.register.proofs.check.check_asked.Tie as tie
+
+-- the book is fit where the first check passed
+is-fit-book : (c : tie.Else1) → fit (now (c .before .before .before .args .book)) ≡ true
+is-fit-book c = test-passed (c .before .is-fit .ensures) (c .if1 .left)
+
+returns : tie.Need-returns
+unfolding askedOf refusalOf pick
+returns c =
+    let args = c .before .before .before .args in
+    sym (ap (λ (x : ℕ). askedOf x (args .crew) (args .bearing)) (asked-book (now (args .book)) _ _ (test-failed (c .before .is-fit .ensures) (c .if1 .taken))))
+
+counts-of-requires : tie.Need-counts-of-requires
+counts-of-requires c κs = fit-open _ (is-fit-book c) .full
+
+returns-2 : tie.Need-returns-2
+unfolding askedOf refusalOf pick
+returns-2 c =
+    let at = c .before .before in
+    let n = at .before .counts-of .ensures in
+    let args = at .before .before .before .before .before .args in
+    let over : countsOf (now (args .book)) .crews ≤ args .crew = subst (λ (m : Counts). m .crews ≤ args .crew) n (bad-crew (at .checked .ensures) (c .enum-told .given .1)) in
+    sym (ap (λ (x : ℕ). askedOf x (args .crew) (args .bearing)) (asked-crew (now (args .book)) _ _ (is-fit-book (at .before .before)) over))
+
+returns-3 : tie.Need-returns-3
+unfolding askedOf refusalOf pick
+returns-3 c =
+    let at2 = c .before .before in
+    let at = at2 .before .before .before .before in
+    let n = at .before .counts-of .ensures in
+    let args = at .before .before .before .before .before .args in
+    let book = now (args .book) in
+    let under : args .crew < countsOf book .crews =
+    subst (λ (m : Counts). args .crew < m .crews) n (good-crew _ (at .checked .ensures) (at2 .before .before .c .given .1) .0) in
+    let over : countsOf book .bearings ≤ args .bearing = subst (λ (m : Counts). m .bearings ≤ args .bearing) n (bad-bearing (at2 .checked2 .ensures) (c .enum-told2 .given .1)) in
+    sym (ap (λ (x : ℕ). askedOf x (args .crew) (args .bearing)) (asked-key book _ _ (is-fit-book (at .before .before)) under over))
+
+returns-4 : tie.Need-returns-4
+unfolding askedOf refusalOf pick
+returns-4 c =
+    let at2 = c .before .before .before in
+    let at = at2 .before .before .before .before in
+    let n = at .before .counts-of .ensures in
+    let args = at .before .before .before .before .before .args in
+    let book = now (args .book) in
+    let first = good-crew _ (at .checked .ensures) (at2 .before .before .c .given .1) in
+    let second = good-bearing _ (at2 .checked2 .ensures) (c .before .k .given .1) in
+    let under : args .crew < countsOf book .crews = subst (λ (m : Counts). args .crew < m .crews) n (first .0) in
+    let under2 : args .bearing < countsOf book .bearings = subst (λ (m : Counts). args .bearing < m .bearings) n (second .0) in
+    sym
+    (ap (λ (x : ℕ). askedOf x (args .crew) (args .bearing)) (asked-good book _ _ (is-fit-book (at .before .before)) under under2)
+    ∙ (λ z. AskCheck.Good (first .1 z) (second .1 z)))
+
+pub check-asked-spec : {M : Type 1} → statement M
+check-asked-spec = tie.close (tie.spec (λ c κs. search needs) returns counts-of-requires (λ c κs. search needs) (λ c. search needs) (λ c. search needs) returns-2 (λ c κs. search needs) (λ c. search needs) (λ c. search needs) returns-3 returns-4)

@@ -1,0 +1,61 @@
+// The checks that calls share, in the order of document 01's table. A number that passed has its own type from here on.
+use crate::answer::Refusal;
+use book::numbers::Bearing;
+use book::numbers::BearingCheck;
+use book::numbers::Crew;
+use book::numbers::CrewCheck;
+use book::numbers::Depot;
+use book::numbers::DepotCheck;
+use book::numbers::Shelf;
+use book::numbers::ShelfCheck;
+use book::parts::counts_of;
+use fit::whole::is_fit;
+ghost use mathlib.Core.Path.{_≡_};
+ghost use Rattle.register.specs.Table.{readNumber, refreshNumber};
+ghost use Rattle.register.specs.Checks.{placeOf, askedOf};
+
+// A depot and a shelf that a call names.
+pub enum PlaceCheck {
+    Good(Depot, Shelf),
+    Bad(Refusal),
+}
+
+// A crew and a bearing that a call names.
+pub enum AskCheck {
+    Good(Crew, Bearing),
+    Bad(Refusal),
+}
+
+// BAD BOOK, BAD DEPOT, BAD SHELF.
+pub fn check_place(book: &[u32], depot: u32, shelf: u32) -> PlaceCheck
+    ensures { λ r. ⌜ r ≡ placeOf (refreshNumber (now (book .entry)) depot shelf) depot shelf ⌝ }
+{
+    if !is_fit(book) {
+        return PlaceCheck::Bad(Refusal::BadBook);
+    }
+    let n = counts_of(book);
+    let DepotCheck::Good(d) = Depot::checked(depot, n.depots) else {
+        return PlaceCheck::Bad(Refusal::BadDepot);
+    };
+    let ShelfCheck::Good(s) = Shelf::checked(shelf, n.shelves) else {
+        return PlaceCheck::Bad(Refusal::BadShelf);
+    };
+    PlaceCheck::Good(d, s)
+}
+
+// BAD BOOK, BAD CREW, BAD KEY.
+pub fn check_asked(book: &[u32], crew: u32, bearing: u32) -> AskCheck
+    ensures { λ r. ⌜ r ≡ askedOf (readNumber (now (book .entry)) crew bearing) crew bearing ⌝ }
+{
+    if !is_fit(book) {
+        return AskCheck::Bad(Refusal::BadBook);
+    }
+    let n = counts_of(book);
+    let CrewCheck::Good(c) = Crew::checked(crew, n.crews) else {
+        return AskCheck::Bad(Refusal::BadCrew);
+    };
+    let BearingCheck::Good(k) = Bearing::checked(bearing, n.bearings) else {
+        return AskCheck::Bad(Refusal::BadKey);
+    };
+    AskCheck::Good(c, k)
+}
