@@ -1,10 +1,16 @@
 -- What the shared checks answer: the numbers that were named, each of its own kind, or the refusal.
 -- Assumes nothing.
 use Prim.Native.Nat.{ℕ}
-use lib.Dec.{eqb}
+use mathlib.Core.Bool.{_||_, not}
+use mathlib.Core.List.{List, [], _∷_}
+use lib.Dec.{eqb, leb}
 use Rattle.order.specs.Loops.{pick}
 use Rattle.register.specs.declared.check.PlaceCheck.{PlaceCheck}
 use Rattle.register.specs.declared.check.AskCheck.{AskCheck}
+use Rattle.register.specs.declared.check.LinkCheck.{LinkCheck}
+use Rattle.book.specs.Layout.{countsOf}
+use Rattle.fit.specs.Fit.{fit}
+use Rattle.register.specs.Table.{first}
 use Rattle.register.specs.Answers.{refusalOf}
 
 -- a depot and a shelf, where the number is 0
@@ -14,3 +20,15 @@ placeOf number d s = pick (eqb number 0) (PlaceCheck.Good (record { 0 = d }) (re
 -- a crew and a bearing, where the number is 0
 unfoldable pub askedOf : ℕ → ℕ → ℕ → AskCheck
 askedOf number c k = pick (eqb number 0) (AskCheck.Good (record { 0 = c }) (record { 0 = k })) (AskCheck.Bad (refusalOf number))
+
+-- the checks of a depot, a shelf and the depot that a message comes from: the first three of a take
+unfoldable pub linkNumber : List ℕ → ℕ → ℕ → ℕ → ℕ
+linkNumber l d s from = first
+    ((not (fit l), 1)
+    ∷ (leb (countsOf l .depots) d || leb (countsOf l .depots) from, 2)
+    ∷ (leb (countsOf l .shelves) s, 3)
+    ∷ [])
+
+-- these three, where the number is 0
+unfoldable pub linkOfNumber : ℕ → ℕ → ℕ → ℕ → LinkCheck
+linkOfNumber number d s from = pick (eqb number 0) (LinkCheck.Good (record { 0 = d }) (record { 0 = s }) (record { 0 = from })) (LinkCheck.Bad (refusalOf number))

@@ -12,7 +12,7 @@ use book::parts::counts_of;
 use fit::whole::is_fit;
 ghost use mathlib.Core.Path.{_≡_};
 ghost use Rattle.register.specs.Table.{readNumber, refreshNumber};
-ghost use Rattle.register.specs.Checks.{placeOf, askedOf};
+ghost use Rattle.register.specs.Checks.{placeOf, askedOf, linkNumber, linkOfNumber};
 
 // A depot and a shelf that a call names.
 pub enum PlaceCheck {
@@ -23,6 +23,12 @@ pub enum PlaceCheck {
 // A crew and a bearing that a call names.
 pub enum AskCheck {
     Good(Crew, Bearing),
+    Bad(Refusal),
+}
+
+// A depot, a shelf and the depot that a message comes from.
+pub enum LinkCheck {
+    Good(Depot, Shelf, Depot),
     Bad(Refusal),
 }
 
@@ -58,4 +64,24 @@ pub fn check_asked(book: &[u32], crew: u32, bearing: u32) -> AskCheck
         return AskCheck::Bad(Refusal::BadKey);
     };
     AskCheck::Good(c, k)
+}
+
+// BAD BOOK, BAD DEPOT (either), BAD SHELF.
+pub fn check_link(book: &[u32], depot: u32, shelf: u32, from: u32) -> LinkCheck
+    ensures { λ r. ⌜ r ≡ linkOfNumber (linkNumber (now (book .entry)) depot shelf from) depot shelf from ⌝ }
+{
+    if !is_fit(book) {
+        return LinkCheck::Bad(Refusal::BadBook);
+    }
+    let n = counts_of(book);
+    let DepotCheck::Good(d) = Depot::checked(depot, n.depots) else {
+        return LinkCheck::Bad(Refusal::BadDepot);
+    };
+    let DepotCheck::Good(o) = Depot::checked(from, n.depots) else {
+        return LinkCheck::Bad(Refusal::BadDepot);
+    };
+    let ShelfCheck::Good(s) = Shelf::checked(shelf, n.shelves) else {
+        return LinkCheck::Bad(Refusal::BadShelf);
+    };
+    LinkCheck::Good(d, s, o)
 }

@@ -1,0 +1,103 @@
+-- From the number of a call to its answer and its book: what a refusal and a done call come to, and what the shared checks tell.
+-- Assumes nothing.
+use Prim.Native.Nat.{ℕ, _≤_, _<_}
+use native.Mathlib.Omega.{arith}
+use mathlib.Core.Path.{_≡_, refl, sym, _∙_, ap}
+use mathlib.Core.List.{List, [], _∷_, _++_}
+use mathlib.Core.Logic.{⊎-elim}
+use mathlib.Core.Bool.{Bool, true, false}
+use lib.Dec.{eqb}
+use borrow.Author.Tests.{eqb-true, eq-eqb, ne-eqb}
+use Rattle.order.specs.Loops.{pick}
+use Rattle.order.proofs.BoolLaws.{decided, pick-true, pick-false}
+use Rattle.book.specs.declared.numbers.Depot.{Depot}
+use Rattle.book.specs.declared.numbers.Shelf.{Shelf}
+use Rattle.book.specs.declared.numbers.Bearing.{Bearing}
+use Rattle.book.specs.declared.numbers.Crew.{Crew}
+use Rattle.register.specs.declared.answer.Refusal.{Refusal}
+use Rattle.register.specs.declared.answer.Answer.{Answer}
+use Rattle.register.specs.declared.check.PlaceCheck.{PlaceCheck}
+use Rattle.register.specs.declared.check.AskCheck.{AskCheck}
+use Rattle.register.specs.declared.check.LinkCheck.{LinkCheck}
+use Rattle.register.specs.Answers.{refusalOf, answerOf}
+use Rattle.register.specs.Table.{first}
+use Rattle.register.specs.Checks.{placeOf, askedOf, linkOfNumber}
+use Rattle.register.specs.Promises.{after}
+use Rattle.register.proofs.TableLaws.{chose-first, chose-second, first-stop, first-next}
+
+-- ---- a refusal, and done
+
+pub not-done : {n : ℕ} (m : ℕ) → n ≡ m → 0 < m → eqb n 0 ≡ false
+not-done {n} m e h = ne-eqb n 0 λ z. omega arith
+
+pub answer-refused : (n : ℕ) {r : Refusal} → eqb n 0 ≡ false → refusalOf n ≡ r → Answer.Refused r ≡ answerOf n
+unfolding answerOf
+answer-refused n e q = ap Answer.Refused (sym q) ∙ sym (pick-false _ _ e)
+
+pub answer-done : (n : ℕ) → n ≡ 0 → Answer.Done ≡ answerOf n
+unfolding answerOf
+answer-done n e = sym (pick-true _ _ (eq-eqb n 0 e))
+
+pub after-refused : (n : ℕ) (changed l : List ℕ) → eqb n 0 ≡ false → l ≡ after n changed l
+unfolding after
+after-refused n changed l e = sym (pick-false _ _ e)
+
+pub after-done : (n : ℕ) (changed l : List ℕ) → n ≡ 0 → changed ≡ after n changed l
+unfolding after
+after-done n changed l e = sym (pick-true _ _ (eq-eqb n 0 e))
+
+-- a refusal by the first checks is the refusal of the whole table
+pub first-keeps : (a b : List (Bool × ℕ)) → eqb (first a) 0 ≡ false → first (a ++ b) ≡ first a
+unfolding first
+first-keeps [] b h = absurd (mathlib.Core.Bool.true≢false h)
+first-keeps (t ∷ a) b h =
+    ⊎-elim
+    (λ (e : t .0 ≡ true). pick-true _ _ e ∙ sym (pick-true _ _ e))
+    (λ (e : t .0 ≡ false). pick-false _ _ e ∙ first-keeps a b (ap (λ (n : ℕ). eqb n 0) (sym (pick-false (t .1) (first a) e)) ∙ h) ∙ sym (pick-false _ _ e))
+    (decided (t .0))
+
+-- ---- what the shared checks tell
+
+pub bad-place : (n d s : ℕ) {x : PlaceCheck} (r : Refusal) → x ≡ placeOf n d s → x ≡ PlaceCheck.Bad r → (eqb n 0 ≡ false) × (refusalOf n ≡ r)
+unfolding placeOf
+bad-place n d s r p q =
+    let h = chose-second (PlaceCheck.Good (record { 0 = d }) (record { 0 = s })) (PlaceCheck.Bad (refusalOf n)) (PlaceCheck.Bad r) (λ e. let z : _≡_ {A = ℕ} 0 1 = cc in omega arith) (sym p ∙ q) in
+    let e = h .1 in
+    (h .0, cc)
+
+pub good-place : (n d s : ℕ) {x : PlaceCheck} (a : Depot) (b : Shelf) → x ≡ placeOf n d s → x ≡ PlaceCheck.Good a b → (n ≡ 0) × (record { 0 = d } ≡ a) × (record { 0 = s } ≡ b)
+unfolding placeOf
+good-place n d s a b p q =
+    let h = chose-first (PlaceCheck.Good (record { 0 = d }) (record { 0 = s })) (PlaceCheck.Bad (refusalOf n)) (PlaceCheck.Good a b) (λ e. let z : _≡_ {A = ℕ} 0 1 = cc in omega arith) (sym p ∙ q) in
+    let e = h .1 in
+    (eqb-true n 0 (h .0), cc, cc)
+
+pub bad-asked : (n c k : ℕ) {x : AskCheck} (r : Refusal) → x ≡ askedOf n c k → x ≡ AskCheck.Bad r → (eqb n 0 ≡ false) × (refusalOf n ≡ r)
+unfolding askedOf
+bad-asked n c k r p q =
+    let h = chose-second (AskCheck.Good (record { 0 = c }) (record { 0 = k })) (AskCheck.Bad (refusalOf n)) (AskCheck.Bad r) (λ e. let z : _≡_ {A = ℕ} 0 1 = cc in omega arith) (sym p ∙ q) in
+    let e = h .1 in
+    (h .0, cc)
+
+pub good-asked : (n c k : ℕ) {x : AskCheck} (a : Crew) (b : Bearing) → x ≡ askedOf n c k → x ≡ AskCheck.Good a b → (n ≡ 0) × (record { 0 = c } ≡ a) × (record { 0 = k } ≡ b)
+unfolding askedOf
+good-asked n c k a b p q =
+    let h = chose-first (AskCheck.Good (record { 0 = c }) (record { 0 = k })) (AskCheck.Bad (refusalOf n)) (AskCheck.Good a b) (λ e. let z : _≡_ {A = ℕ} 0 1 = cc in omega arith) (sym p ∙ q) in
+    let e = h .1 in
+    (eqb-true n 0 (h .0), cc, cc)
+
+pub bad-link : (n d s o : ℕ) {x : LinkCheck} (r : Refusal) → x ≡ linkOfNumber n d s o → x ≡ LinkCheck.Bad r → (eqb n 0 ≡ false) × (refusalOf n ≡ r)
+unfolding linkOfNumber
+bad-link n d s o r p q =
+    let h = chose-second (LinkCheck.Good (record { 0 = d }) (record { 0 = s }) (record { 0 = o })) (LinkCheck.Bad (refusalOf n)) (LinkCheck.Bad r) (λ e. let z : _≡_ {A = ℕ} 0 1 = cc in omega arith) (sym p ∙ q) in
+    let e = h .1 in
+    (h .0, cc)
+
+pub good-link :
+    (n d s o : ℕ) {x : LinkCheck} (a : Depot) (b : Shelf) (c : Depot) → x ≡ linkOfNumber n d s o → x ≡ LinkCheck.Good a b c →
+    (n ≡ 0) × (record { 0 = d } ≡ a) × (record { 0 = s } ≡ b) × (record { 0 = o } ≡ c)
+unfolding linkOfNumber
+good-link n d s o a b c p q =
+    let h = chose-first (LinkCheck.Good (record { 0 = d }) (record { 0 = s }) (record { 0 = o })) (LinkCheck.Bad (refusalOf n)) (LinkCheck.Good a b c) (λ e. let z : _≡_ {A = ℕ} 0 1 = cc in omega arith) (sym p ∙ q) in
+    let e = h .1 in
+    (eqb-true n 0 (h .0), cc, cc, cc)
