@@ -1,17 +1,15 @@
 -- A fit book as statements, part by part: taken apart from the test, and put together again.
 -- Assumes nothing.
-use Prim.Native.Nat.{ℕ, zero, suc, _+_, _*_, _-_, _≤_, _<_}
+use Prim.Native.Nat.{ℕ, _-_, _≤_, _<_}
 use native.Mathlib.Nat.{zero-add}
-use native.Mathlib.Omega.{arith}
-use mathlib.Core.Path.{_≡_, refl, sym, _∙_, ap, ap₂, subst}
-use mathlib.Core.Logic.{_⊎_, inl, inr, ⊎-elim}
+use mathlib.Core.Path.{_≡_, refl, sym, subst}
+use mathlib.Core.Logic.{⊎-elim}
 use mathlib.Core.List.{List}
-use mathlib.Core.Bool.{Bool, true, false, _&&_, _||_}
-use lib.Dec.{leb, ltb, eqb}
+use mathlib.Core.Bool.{true, _&&_}
+use lib.Dec.{leb, eqb}
 use lib.ListN.{length}
-use borrow.Author.Tests.{leb-true, le-leb, ltb-true, lt-ltb, eqb-true, eq-eqb, ne-eqb}
+use borrow.Author.Tests.{leb-true, le-leb, ltb-true, lt-ltb, eqb-true, eq-eqb}
 use Rattle.order.specs.Loops.{every}
-use Rattle.order.specs.Vector.{Vec}
 use Rattle.order.proofs.BoolLaws.{and-left, and-right, and-intro, or-cases, or-left, or-right, eq-or-ne}
 use Rattle.order.proofs.LoopLaws.{every-at, every-intro}
 use Rattle.order.proofs.VectorLaws.{covered-at, covered-intro}
@@ -19,9 +17,8 @@ use Rattle.book.specs.declared.parts.Counts.{Counts}
 use Rattle.book.specs.Layout.{countsOf, home, crewVector, clock, stable, seen, linkOf, held, taken, slot, stored}
 use Rattle.fit.specs.Fit.{end, countsFit, homeFit, inRange, othersInRange, crewFit, shelfFit, copyFit, messageFit, linkFit, keptFit, storedFit, Within}
 use Rattle.fit.specs.Fit.{homesFit, crewsFit, shelvesFit, linksFit, storesFit, partsFit, fit}
-use Rattle.fit.proofs.FitLaws.{IsFit, fit-open, counts-within}
+use Rattle.fit.proofs.FitLaws.{fit-open, counts-within}
 use Rattle.shelf.proofs.AllLaws.{AllOf, all-slots, all-slots-at}
-use Rattle.shelf.proofs.SlotLaws.{slots}
 use Rattle.shelf.proofs.ShowLaws.{takenSlots, untakenSlots}
 
 pub record ShelfOk (n : Counts) (l : List ℕ) (d s : ℕ) : Type 0 where
@@ -116,7 +113,10 @@ parts-close n l P =
     (and-intro (every-intro (n .depots) _ (λ d a. every-intro (n .shelves) _ (λ s b. shelf-close n l d s (P .shelves d s a b))))
     (and-intro
     (every-intro (n .shelves) _ (λ s a. every-intro (n .depots) _ (λ from b. every-intro (n .depots) _ (λ to c.
-    ⊎-elim (λ (e : from ≡ to). or-left (eqb from to) _ (eq-eqb from to e)) (λ (e : from ≡ to → ⊥). or-right (eqb from to) _ (link-close n l s from _ (P .links s from to a b c e))) (eq-or-ne from to)))))
+    ⊎-elim
+    (λ (e : from ≡ to). or-left (eqb from to) _ (eq-eqb from to e))
+    (λ (e : from ≡ to → ⊥). or-right (eqb from to) _ (link-close n l s from _ (P .links s from to a b c e)))
+    (eq-or-ne from to)))))
     (every-intro (n .depots) _ (λ d a. every-intro (n .bearings) _ (λ k b. P .stores d k a b))))))
 
 -- a fit book, whole

@@ -1,13 +1,11 @@
 -- The refusal table: a number is answered exactly when its check holds and none before it does. Then each table, row by row.
 -- Assumes nothing.
 use Prim.Native.Nat.{ℕ, _≤_, _<_}
-use native.Mathlib.Omega.{arith}
 use mathlib.Core.Path.{_≡_, refl, sym, _∙_, ap, subst}
 use mathlib.Core.Logic.{⊎-elim}
 use mathlib.Core.List.{List, [], _∷_}
 use mathlib.Core.Bool.{Bool, true, false, not}
-use lib.Dec.{lit≤}
-use borrow.Author.Tests.{le-leb, lt-leb, leb-false, not-false}
+use borrow.Author.Tests.{le-leb, lt-leb}
 use Rattle.order.specs.Loops.{pick}
 use Rattle.order.proofs.BoolLaws.{decided, pick-true, pick-false, not-failed}
 use Rattle.book.specs.Layout.{countsOf}
@@ -49,14 +47,6 @@ first-says (t ∷ rest) n h =
     (λ (e : t .0 ≡ false). later e (first-says rest n (sym (pick-false _ _ e) ∙ h)))
     (decided (t .0))
 
--- done means that no check held
-pub first-zero : (t : Bool) (n : ℕ) (rest : List (Bool × ℕ)) → 0 < n → first ((t, n) ∷ rest) ≡ 0 → (t ≡ false) × (first rest ≡ 0)
-first-zero t n rest k h =
-    ⊎-elim
-    (λ (e : t ≡ true). let z = sym (first-stop t n rest e) ∙ h in absurd (omega arith))
-    (λ (e : t ≡ false). (e, sym (first-next t n rest e) ∙ h))
-    (decided t)
-
 -- ---- a depot and a shelf of a fit book
 
 module _ (l : List ℕ) (d s : ℕ) where
@@ -76,14 +66,6 @@ module _ (l : List ℕ) (d s : ℕ) where
   unfolding refreshNumber
   place-good f h k = first-next _ _ _ (ap not f) ∙ first-next _ _ _ (lt-leb _ _ h) ∙ first-next _ _ _ (lt-leb _ _ k) ∙ first-none
 
-  pub place-open : refreshNumber l d s ≡ 0 → (fit l ≡ true) × (d < countsOf l .depots) × (s < countsOf l .shelves)
-  unfolding refreshNumber
-  place-open h =
-      let a = first-zero _ _ _ (lit≤ tt) h in
-      let b = first-zero _ _ _ (lit≤ tt) (a .1) in
-      let c = first-zero _ _ _ (lit≤ tt) (b .1) in
-      (not-false _ (a .0), leb-false _ _ (b .0), leb-false _ _ (c .0))
-
 -- ---- a crew and a bearing of a fit book
 
 module _ (l : List ℕ) (c k : ℕ) where
@@ -102,14 +84,6 @@ module _ (l : List ℕ) (c k : ℕ) where
   pub asked-good : fit l ≡ true → c < countsOf l .crews → k < countsOf l .bearings → readNumber l c k ≡ 0
   unfolding readNumber
   asked-good f h j = first-next _ _ _ (ap not f) ∙ first-next _ _ _ (lt-leb _ _ h) ∙ first-next _ _ _ (lt-leb _ _ j) ∙ first-none
-
-  pub asked-open : readNumber l c k ≡ 0 → (fit l ≡ true) × (c < countsOf l .crews) × (k < countsOf l .bearings)
-  unfolding readNumber
-  asked-open h =
-      let a = first-zero _ _ _ (lit≤ tt) h in
-      let b = first-zero _ _ _ (lit≤ tt) (a .1) in
-      let e = first-zero _ _ _ (lit≤ tt) (b .1) in
-      (not-false _ (a .0), leb-false _ _ (b .0), leb-false _ _ (e .0))
 
 -- ---- what a check that chooses between two answers chose
 

@@ -4,14 +4,14 @@ use Prim.Native.Nat.{ℕ, _≤_, _<_}
 use mathlib.Core.Path.{_≡_, _∙_, ap}
 use mathlib.Core.List.{List, [], _∷_}
 use mathlib.Core.Bool.{true, false, not, _||_}
-use lib.Dec.{leb, eqb, lit≤}
-use borrow.Author.Tests.{le-leb, lt-leb, leb-false, not-false, eq-eqb, ne-eqb}
+use lib.Dec.{leb, eqb}
+use borrow.Author.Tests.{le-leb, lt-leb, eq-eqb, ne-eqb}
 use Rattle.order.proofs.BoolLaws.{not-failed, or-left, or-right, or-next}
 use Rattle.book.specs.Layout.{countsOf, linkOf, held, taken}
 use Rattle.fit.specs.Fit.{fit}
 use Rattle.register.specs.Table.{first, takeNumber}
 use Rattle.register.specs.Checks.{linkNumber}
-use Rattle.register.proofs.TableLaws.{first-stop, first-next, first-none, first-zero}
+use Rattle.register.proofs.TableLaws.{first-stop, first-next, first-none}
 use Rattle.register.proofs.CallLaws.{first-keeps}
 
 module _ (l : List ℕ) (d s from : ℕ) where

@@ -1,10 +1,10 @@
 -- What holds of every thing in a list: joining, listing, leaving out, and what it gives the showing of records.
 -- Assumes nothing.
-use Prim.Native.Nat.{ℕ, zero, suc, _+_, _≤_, _<_}
-use native.Mathlib.Nat.{le-refl, le-step, zero-add}
+use Prim.Native.Nat.{ℕ, zero, suc, _+_, _<_}
+use native.Mathlib.Nat.{le-refl, le-step}
 use native.Mathlib.Omega.{arith}
-use mathlib.Core.Path.{_≡_, refl, sym, _∙_, ap, ap₂, subst}
-use mathlib.Core.Logic.{_⊎_, inl, inr, ⊎-elim}
+use mathlib.Core.Path.{_≡_, sym, subst}
+use mathlib.Core.Logic.{⊎-elim}
 use mathlib.Core.List.{List, [], _∷_, _++_}
 use mathlib.Core.Bool.{Bool, true, false}
 use Rattle.order.specs.Loops.{pick}
@@ -12,7 +12,7 @@ use lib.Dec.{eqb}
 use borrow.Author.Tests.{eqb-true}
 use Rattle.order.specs.Order.{above}
 use Rattle.order.specs.Record.{bearingOf, rankOf}
-use Rattle.order.proofs.BoolLaws.{decided, pick-true, pick-false, eq-or-ne}
+use Rattle.order.proofs.BoolLaws.{eq-or-ne}
 use Rattle.book.specs.Layout.{slot, recordOf}
 use Rattle.shelf.proofs.FrameLaws.{pick-cases}
 use Rattle.shelf.proofs.SlotLaws.{listed, slots}

@@ -7,7 +7,7 @@ use mathlib.Core.Path.{_≡_, refl, sym, _∙_, subst}
 use mathlib.Core.Logic.{_⊎_, inl, inr, ⊎-elim}
 use mathlib.Core.List.{List}
 use mathlib.Core.Bool.{Bool, true, false}
-use lib.ListN.{length, getD, set, drop, replicate, length-take, length-set, length-replicate}
+use lib.ListN.{length, getD, set, drop, length-take, length-set, length-replicate}
 use lib.Seq.{getD-set-same, getD-set-other}
 use Rattle.order.specs.Loops.{times, pick}
 use Rattle.order.specs.Record.{bearingOf}

@@ -2,10 +2,11 @@ pub mod FrameLaws
 pub mod ShowFrame
 pub mod SendFrame
 pub mod SlotLaws
-pub mod SentLaws
 pub mod SweepLaws
 pub mod ShowLaws
-pub mod ShownLaws
-pub mod TookLaws
 pub mod AllLaws
+pub mod ShownLaws
+pub mod SentLaws
+pub mod TookLaws
+pub mod StableLaws
 mod ShelfCode

@@ -1,23 +1,22 @@
 -- What sending and taking leave alone: all but the clock, one slot and the head of each link out; all but the stamp seen and one link.
 -- Assumes nothing.
-use Prim.Native.Nat.{ℕ, zero, suc, _+_, _*_, _-_, _≤_, _<_}
-use native.Mathlib.Nat.{le-refl, le-step, lt-of-lt-of-le, le-of-eq}
+use Prim.Native.Nat.{ℕ, _+_, _*_, _-_, _≤_, _<_}
+use native.Mathlib.Nat.{le-refl, le-step}
 use native.Mathlib.Omega.{arith}
-use mathlib.Core.Path.{_≡_, refl, sym, _∙_, ap, subst}
+use mathlib.Core.Path.{_≡_, refl, sym, _∙_, subst}
 use mathlib.Core.List.{List}
-use mathlib.Core.Bool.{true, false}
 use lib.Dec.{eqb}
 use lib.ListN.{length, getD, set, length-set}
-use lib.Seq.{getD-set-same, getD-set-other}
+use lib.Seq.{getD-set-other}
 use borrow.Author.Tests.{eqb-false}
-use Rattle.order.specs.Loops.{times, pick}
+use Rattle.order.specs.Loops.{times}
 use Rattle.book.specs.Words.{put}
-use Rattle.book.specs.Layout.{clockAt, seenAt, slotAt, heldAt, takenAt, linkOf, slot, held, taken}
+use Rattle.book.specs.Layout.{clockAt, seenAt, slotAt, heldAt, takenAt, linkOf, held, taken}
 use Rattle.book.proofs.WordsLaws.{length-put}
 pub use Rattle.shelf.specs.Asks.{Free}
 use Rattle.shelf.specs.Show.{closedUp}
-use Rattle.shelf.specs.Send.{sentTo, sent, stampFrom, movedOn, took}
-use Rattle.shelf.proofs.FrameLaws.{Off, pick-cases, times-grows, put-off, part-off, length-closed-up, closed-up-off}
+use Rattle.shelf.specs.Send.{sentTo, sent, movedOn, took}
+use Rattle.shelf.proofs.FrameLaws.{Off, pick-cases, times-grows, put-off, length-closed-up, closed-up-off}
 
 -- ---- one link
 
@@ -125,3 +124,7 @@ module _ (d s from : ℕ) (l : List ℕ) where
       getD (took d s from l) j 0 ≡ getD l j 0
   unfolding took
   took-off j k seen slots heads = moved-on-off _ _ _ _ (set l (seenAt d s + from) _) j k slots heads ∙ getD-set-other l _ j _ 0 seen
+
+  -- the counts, the homes, the crews' vectors, the clocks and the stable vectors stay
+  pub took-low : taken l (linkOf s from d) < held l (linkOf s from d) → (j : ℕ) → j < 164 → getD (took d s from l) j 0 ≡ getD l j 0
+  took-low k j low = took-off j k (omega arith) (omega arith) (omega arith)

@@ -1,23 +1,22 @@
 -- What sending makes of a link out: the message stands last, behind all that was there.
 -- Assumes nothing.
-use Prim.Native.Nat.{ℕ, zero, suc, _+_, _*_, _-_, _≤_, _<_}
-use native.Mathlib.Nat.{le-refl, le-step, le-of-eq}
+use Prim.Native.Nat.{ℕ, zero, suc, _+_, _-_, _≤_, _<_}
+use native.Mathlib.Nat.{le-refl, le-of-eq}
 use native.Mathlib.Omega.{arith}
-use mathlib.Core.Path.{_≡_, refl, sym, _∙_, ap, ap₂, subst}
-use mathlib.Core.Logic.{_⊎_, inl, inr, ⊎-elim}
+use mathlib.Core.Path.{_≡_, sym, _∙_, ap, ap₂, subst}
+use mathlib.Core.Logic.{⊎-elim}
 use mathlib.Core.List.{List, [], _∷_, _++_}
-use lib.Dec.{eqb}
-use lib.ListN.{length, getD, set, length-set}
+use lib.ListN.{length, getD, length-set}
 use lib.Seq.{getD-set-same, getD-set-other}
-use borrow.Author.Tests.{eq-eqb, ne-eqb}
-use Rattle.order.specs.Loops.{times, pick}
-use Rattle.order.proofs.BoolLaws.{pick-true, pick-false, eq-or-ne}
+use borrow.Author.Tests.{ne-eqb}
+use Rattle.order.specs.Loops.{times}
+use Rattle.order.proofs.BoolLaws.{pick-false, eq-or-ne}
 use Rattle.book.specs.Words.{part, put}
 use Rattle.book.specs.Layout.{clockAt, slotAt, heldAt, takenAt, linkOf, clock, slot, held, taken, stored, storedAt}
 use Rattle.book.proofs.WordsLaws.{length-put, put-same}
 use Rattle.shelf.specs.Send.{sentTo, sent}
 use Rattle.shelf.proofs.FrameLaws.{Off, part-off, times-grows}
-use Rattle.shelf.proofs.SendFrame.{length-sent-to, sent-to-off, OffOut, Free, Sending, sentUpTo, send-turns, waiting-held, length-sent, sent-off, sent-high}
+use Rattle.shelf.proofs.SendFrame.{length-sent-to, sent-to-off, Free, Sending, sentUpTo, send-turns, waiting-held, length-sent, sent-off, sent-high}
 use Rattle.shelf.proofs.SlotLaws.{slots, slots-off, slots-more}
 use Rattle.shelf.proofs.ShowLaws.{takenSlots, untakenSlots}
 

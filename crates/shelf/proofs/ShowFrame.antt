@@ -1,11 +1,10 @@
 -- What raise and show leaves alone: all but the stable vector, the incoming links of the shelf and the depot's stored versions.
 -- Assumes nothing.
-use Prim.Native.Nat.{ℕ, zero, suc, _+_, _*_, _-_, _≤_, _<_}
+use Prim.Native.Nat.{ℕ, suc, _*_, _≤_, _<_}
 use native.Mathlib.Nat.{le-refl, le-step, lt-of-lt-of-le}
 use native.Mathlib.Omega.{arith}
-use mathlib.Core.Path.{_≡_, refl, sym, _∙_, ap, subst}
+use mathlib.Core.Path.{_≡_, refl, sym, _∙_, subst}
 use mathlib.Core.List.{List}
-use mathlib.Core.Bool.{true, false}
 use lib.Dec.{eqb}
 use lib.ListN.{length, getD}
 use borrow.Author.Tests.{eqb-false}
@@ -13,9 +12,9 @@ use Rattle.order.specs.Loops.{times, pick}
 use Rattle.order.specs.Vector.{Vec, mergedAt}
 use Rattle.order.specs.Record.{bearingOf}
 use Rattle.order.proofs.VectorLaws.{length-merged, merged-other}
-use Rattle.book.specs.Layout.{stableAt, storedAt, slotAt, heldAt, takenAt, linkOf, slot, held, taken, recordOf}
+use Rattle.book.specs.Layout.{stableAt, storedAt, slotAt, heldAt, takenAt, linkOf, slot, held, taken, stored, recordOf}
 pub use Rattle.shelf.specs.Asks.{Sound, Ready}
-use Rattle.shelf.specs.Show.{swept, sweptUp, shownLink, shown, settled}
+use Rattle.shelf.specs.Show.{swept, shownLink, shown, settled}
 use Rattle.shelf.proofs.FrameLaws.{Off, off-sides, pick-cases, times-grows, part-off, length-swept, swept-kept, swept-low, swept-off, length-swept-up, swept-up-off}
 
 pub sound-same :
@@ -154,3 +153,27 @@ settled-off n d s offered l h j out links store =
 -- the counts, the homes, the crews' vectors and the clocks stay
 pub settled-low : (n d s : ℕ) (offered : Vec) (l : List ℕ) → Ready n d s l → (j : ℕ) → j < 100 → getD (settled n d s offered l) j 0 ≡ getD l j 0
 settled-low n d s offered l h j low = settled-off n d s offered l h j (omega arith) (λ from x y. omega arith) (omega arith)
+
+-- ---- the stored versions of the other depots stay
+
+pub shown-link-other :
+    (n d s from : ℕ) (l : List ℕ) → linkOf s from d < 64 → Sound l (linkOf s from d) → (e k : ℕ) → (e ≡ d → ⊥) → k < 160 →
+    stored (shownLink n d s from l) e k ≡ stored l e k
+shown-link-other n d s from l hq h e k f z =
+    part-off _ l (storedAt e k) 9 (length-shown-link n d s from l) λ j x y. shown-link-off n d s from l hq h j (omega arith) (omega arith) (omega arith)
+
+module _ (n d s : ℕ) (l : List ℕ) (h : Ready n d s l) (e k : ℕ) (f : e ≡ d → ⊥) (z : k < 160) where
+  pub shown-other : stored (shown n d s l) e k ≡ stored l e k
+  shown-other =
+      let a = h .depots in
+      let b = h .depot in
+      let c = h .shelf in
+      part-off _ l (storedAt e k) 9 (length-shown n d s l) λ j x y. shown-off n d s l h j (λ from u v. (omega arith, omega arith)) (omega arith)
+
+  pub settled-other : (offered : Vec) → stored (settled n d s offered l) e k ≡ stored l e k
+  settled-other offered =
+      let a = h .depots in
+      let b = h .depot in
+      let c = h .shelf in
+      part-off _ l (storedAt e k) 9 (length-settled n d s offered l) λ j x y.
+      settled-off n d s offered l h j (omega arith) (λ from u v. (omega arith, omega arith)) (omega arith)

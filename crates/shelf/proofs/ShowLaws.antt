@@ -1,24 +1,18 @@
 -- What showing makes of a link and of the records: of the taken copies those that are not covered stay, the untaken messages all stay, and the
 -- covered ones are shown in order.
 -- Assumes nothing.
-use Prim.Native.Nat.{ℕ, zero, suc, _+_, _*_, _-_, _≤_, _<_}
-use native.Mathlib.Nat.{le-refl, le-step, zero-add, lt-of-lt-of-le}
+use Prim.Native.Nat.{ℕ, _+_, _-_, _≤_, _<_}
 use native.Mathlib.Omega.{arith}
-use mathlib.Core.Path.{_≡_, refl, sym, _∙_, ap, ap₂, subst}
+use mathlib.Core.Path.{_≡_, sym, _∙_, ap, ap₂}
 use mathlib.Core.List.{List}
-use mathlib.Core.Bool.{Bool, true, false}
-use lib.Dec.{eqb, lit≤}
-use lib.ListN.{length, getD}
-use borrow.Author.Tests.{eqb-false}
-use Rattle.order.specs.Loops.{times, pick}
-use Rattle.order.specs.Record.{bearingOf}
-use Rattle.book.specs.Layout.{stableAt, storedAt, slotAt, heldAt, takenAt, linkOf, slot, held, taken, stored, recordOf}
-use Rattle.shelf.specs.Show.{Sweep, swept, closedUp, withHead, sweptUp, shownLink, shown}
-use Rattle.shelf.proofs.FrameLaws.{Off, part-off, length-swept, swept-kept, swept-low, swept-later, length-closed-up, length-with-head, with-head-off, held-with-head, taken-with-head}
-use Rattle.shelf.proofs.FrameLaws.{length-swept-up, swept-up-off, pick-cases, times-grows}
-use Rattle.shelf.proofs.ShowFrame.{Sound, length-shown-link, shown-link-off, Ready, OffLinks, showTurn, Turned, show-turns, show-turns-sound, waiting-sound, shown-off}
+use lib.ListN.{length}
+use Rattle.book.specs.Layout.{storedAt, takenAt, linkOf, held, taken, stored}
+use Rattle.shelf.specs.Show.{Sweep, swept, closedUp, sweptUp, shownLink}
+use Rattle.shelf.proofs.FrameLaws.{part-off, length-swept, swept-kept, swept-later, length-closed-up, length-with-head, with-head-off, held-with-head, taken-with-head}
+use Rattle.shelf.proofs.FrameLaws.{length-swept-up, swept-up-off}
+use Rattle.shelf.proofs.ShowFrame.{Sound}
 use Rattle.shelf.proofs.SlotLaws.{slots, slots-off, slots-same, length-slots, closed-up-first, closed-up-rest}
-use Rattle.shelf.proofs.SweepLaws.{staying, recordsShown, clearAt, clear-same, Placed, swept-slots, swept-stored}
+use Rattle.shelf.proofs.SweepLaws.{staying, recordsShown, clearAt, Placed, swept-slots, swept-stored}
 
 -- the taken copies of link q, oldest first, and the untaken messages behind them
 unfoldable pub takenSlots : List ℕ → ℕ → List (List ℕ)

@@ -1,29 +1,29 @@
 -- What raise and show makes of every link into the shelf and of the depot's records.
 -- Assumes nothing.
-use Prim.Native.Nat.{ℕ, zero, suc, _+_, _*_, _-_, _≤_, _<_}
-use native.Mathlib.Nat.{le-refl, le-step, zero-add, lt-of-lt-of-le}
+use Prim.Native.Nat.{ℕ, zero, suc, _-_, _≤_, _<_}
+use native.Mathlib.Nat.{le-refl, zero-add}
 use native.Mathlib.Omega.{arith}
 use mathlib.Core.Path.{_≡_, refl, sym, _∙_, ap, ap₂, subst, fun-ext}
 use mathlib.Core.Logic.{_⊎_, inl, inr, ⊎-elim}
 use mathlib.Core.List.{List}
-use mathlib.Core.Bool.{Bool, true, false}
+use mathlib.Core.Bool.{Bool}
 use lib.Dec.{eqb}
 use lib.ListN.{length, getD}
 use borrow.Author.Tests.{eq-eqb, ne-eqb}
 use Rattle.order.specs.Loops.{times, pick}
 use Rattle.order.specs.Vector.{Vec, mergedAt}
 use Rattle.order.specs.Record.{bearingOf}
-use Rattle.order.proofs.BoolLaws.{decided, pick-true, pick-false, eq-or-ne}
+use Rattle.order.proofs.BoolLaws.{pick-true, pick-false, eq-or-ne}
 use Rattle.order.proofs.LoopLaws.{times-suc, times-same}
 use Rattle.order.proofs.VectorLaws.{length-merged}
 use Rattle.book.specs.Layout.{stableAt, storedAt, slotAt, heldAt, takenAt, linkOf, slot, held, taken, stored, recordOf}
 use Rattle.shelf.specs.Show.{shownLink, shown, settled}
-use Rattle.shelf.proofs.FrameLaws.{Off, part-off, pick-cases, times-grows}
-use Rattle.shelf.proofs.ShowFrame.{Sound, length-shown-link, shown-link-off, Ready, OffLinks, showTurn, Turned, show-turns, waiting-sound, raised-off, raised-ready}
+use Rattle.shelf.proofs.FrameLaws.{part-off}
+use Rattle.shelf.proofs.ShowFrame.{Sound, length-shown-link, shown-link-off, Ready, showTurn, Turned, show-turns, waiting-sound, raised-off, raised-ready}
 use Rattle.shelf.proofs.SlotLaws.{slots, slots-off}
 use Rattle.shelf.proofs.SweepLaws.{staying, recordsShown, clearAt, clear-same, Placed}
 use Rattle.shelf.proofs.ShowLaws.{takenSlots, untakenSlots, taken-slots-shown-link, untaken-slots-shown-link, held-shown-link, fewer-shown-link, stored-shown-link}
-use Rattle.shelf.proofs.AllLaws.{AllOf, Lows, all-slots, records-shown-same}
+use Rattle.shelf.proofs.AllLaws.{Lows, all-slots, records-shown-same}
 
 -- a link whose slots and heads stay is the same link
 pub record SameLink (l m : List ℕ) (q : ℕ) : Type 0 where

@@ -1,19 +1,19 @@
 -- A link as the list of its slots, and what putting, closing up and sending make of that list.
 -- Assumes nothing.
 use Prim.Native.Nat.{ℕ, zero, suc, _+_, _*_, _-_, _≤_, _<_}
-use native.Mathlib.Nat.{le-refl, le-step, add-zero, add-suc, suc-add, zero-add, le-of-eq}
+use native.Mathlib.Nat.{le-refl, le-step, add-zero, add-suc, zero-add}
 use native.Mathlib.Numerals.{add-one}
 use native.Mathlib.Omega.{arith}
 use mathlib.Core.Path.{_≡_, refl, sym, _∙_, ap, ap₂, subst}
-use mathlib.Core.Logic.{inl, inr}
+use mathlib.Core.Logic.{inl}
 use mathlib.Core.List.{List, [], _∷_, _++_, append-assoc}
 use lib.ListN.{length, getD, length-append, replicate}
 use lib.Seq.{ext-getD}
 use Rattle.book.specs.Words.{part, put}
 use Rattle.book.specs.Layout.{slotAt, slot}
-use Rattle.book.proofs.WordsLaws.{length-part, part-at, length-put, put-out, put-in, put-same}
+use Rattle.book.proofs.WordsLaws.{length-part, part-at, length-put, put-out, put-in}
 use Rattle.shelf.specs.Show.{closedUp}
-use Rattle.shelf.proofs.FrameLaws.{Off, part-off, put-off, length-closed-up, closed-up-off}
+use Rattle.shelf.proofs.FrameLaws.{part-off, length-closed-up, closed-up-off}
 
 -- f 0, f 1, .. and f (n - 1)
 unfoldable pub listed : {A : Type 0} → ℕ → (ℕ → A) → List A

@@ -1,12 +1,11 @@
 -- What a sweep comes to: of the taken copies those that are not covered stay in order, and those that are covered are shown in order.
 -- Assumes nothing.
-use Prim.Native.Nat.{ℕ, zero, suc, _+_, _*_, _-_, _≤_, _<_}
-use native.Mathlib.Nat.{le-refl, le-step, add-zero, zero-add, lt-of-lt-of-le}
-use native.Mathlib.Numerals.{add-one}
+use Prim.Native.Nat.{ℕ, zero, suc, _+_, _≤_, _<_}
+use native.Mathlib.Nat.{le-refl, le-step, zero-add}
 use native.Mathlib.Omega.{arith}
 use mathlib.Core.Path.{_≡_, refl, sym, _∙_, ap, ap₂, subst}
-use mathlib.Core.Logic.{_⊎_, inl, inr, ⊎-elim}
-use mathlib.Core.List.{List, [], _∷_, _++_, append-assoc, append-nil}
+use mathlib.Core.Logic.{⊎-elim}
+use mathlib.Core.List.{List, [], _∷_, _++_, append-nil}
 use mathlib.Core.Bool.{Bool, true, false}
 use lib.Dec.{eqb, lit≤}
 use lib.ListN.{length, getD}
@@ -21,9 +20,8 @@ use Rattle.book.specs.Words.{part, put}
 use Rattle.book.specs.Layout.{stableAt, storedAt, slotAt, slot, stored, stable, recordOf}
 use Rattle.book.proofs.WordsLaws.{length-part, length-put, put-same}
 use Rattle.shelf.specs.Show.{keptIn, Sweep, sweepOne, swept}
-use Rattle.shelf.proofs.FrameLaws.{Off, pick-cases, part-off, put-off, length-part-le, length-kept-in, kept-in-off, kept-in-low, length-swept, swept-kept, swept-low, swept-later, swept-suc}
-use Rattle.shelf.proofs.FrameLaws.{length-sweep-one, sweep-one-kept}
-use Rattle.shelf.proofs.SlotLaws.{slots, slots-none, slots-suc, slots-more, slots-off, slots-same}
+use Rattle.shelf.proofs.FrameLaws.{pick-cases, part-off, put-off, length-part-le, length-kept-in, kept-in-off, kept-in-low, length-swept, swept-kept, swept-low, swept-later}
+use Rattle.shelf.proofs.SlotLaws.{slots, slots-none, slots-suc, slots-more, slots-off}
 
 -- ---- the lists
 

@@ -1,10 +1,9 @@
 -- What taking makes of a link: the first untaken message is gone from the untaken, and a copy stands last of the taken.
 -- Assumes nothing.
-use Prim.Native.Nat.{ℕ, zero, suc, _+_, _*_, _-_, _≤_, _<_}
-use native.Mathlib.Nat.{le-refl, le-step, le-of-eq, zero-add}
+use Prim.Native.Nat.{ℕ, suc, _+_, _-_, _≤_, _<_}
+use native.Mathlib.Nat.{zero-add}
 use native.Mathlib.Omega.{arith}
-use mathlib.Core.Path.{_≡_, refl, sym, _∙_, ap, ap₂, subst}
-use mathlib.Core.Logic.{_⊎_, inl, inr, ⊎-elim}
+use mathlib.Core.Path.{_≡_, sym, _∙_, ap, ap₂}
 use mathlib.Core.List.{List, [], _∷_, _++_}
 use mathlib.Core.Bool.{Bool, true, false}
 use lib.Dec.{eqb}
@@ -14,8 +13,8 @@ use Rattle.order.specs.Loops.{pick}
 use Rattle.book.specs.Layout.{beatKind, seenAt, slotAt, heldAt, takenAt, storedAt, linkOf, slot, held, taken, stored, kindOf}
 use Rattle.shelf.specs.Show.{closedUp}
 use Rattle.shelf.specs.Send.{stampFrom, movedOn, took}
-use Rattle.shelf.proofs.FrameLaws.{Off, part-off, length-closed-up, closed-up-off}
-use Rattle.shelf.proofs.SendFrame.{length-moved-on, moved-on-off, length-took, took-off}
+use Rattle.shelf.proofs.FrameLaws.{part-off, length-closed-up, closed-up-off}
+use Rattle.shelf.proofs.SendFrame.{moved-on-off, length-took, took-off}
 use Rattle.shelf.proofs.SlotLaws.{slots, slots-off, slots-first, slots-more, closed-up-first, closed-up-rest}
 use Rattle.shelf.proofs.ShowLaws.{takenSlots, untakenSlots}
 
