@@ -46,6 +46,13 @@ pub after-done : (n : ℕ) (changed l : List ℕ) → n ≡ 0 → changed ≡ af
 unfolding after
 after-done n changed l e = sym (pick-true _ _ (eq-eqb n 0 e))
 
+-- a refusal with a number that is known
+pub refused-answer : (n m : ℕ) {r : Refusal} → n ≡ m → eqb m 0 ≡ false → refusalOf m ≡ r → Answer.Refused r ≡ answerOf n
+refused-answer n m e h q = answer-refused n (ap (λ (x : ℕ). eqb x 0) e ∙ h) (ap refusalOf e ∙ q)
+
+pub refused-book : (n m : ℕ) (changed l : List ℕ) → n ≡ m → eqb m 0 ≡ false → l ≡ after n changed l
+refused-book n m changed l e h = after-refused n changed l (ap (λ (x : ℕ). eqb x 0) e ∙ h)
+
 -- a refusal by the first checks is the refusal of the whole table
 pub first-keeps : (a b : List (Bool × ℕ)) → eqb (first a) 0 ≡ false → first (a ++ b) ≡ first a
 unfolding first

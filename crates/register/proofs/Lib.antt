@@ -2,6 +2,8 @@ pub mod TableLaws
 pub mod KindLaws
 pub mod CallLaws
 pub mod TakeTable
+pub mod SendTable
+pub mod HomeLaws
 pub mod FitParts
 pub mod FitFrame
 pub mod FitMessage

@@ -24,7 +24,7 @@ first-passed true k rest f h = absurd (f h)
 first-passed false k rest f h = (refl, h)
 
 -- two checks under one number
-or-none : (a b : Bool) → a || b ≡ false → (a ≡ false) × (b ≡ false)
+pub or-none : (a b : Bool) → a || b ≡ false → (a ≡ false) × (b ≡ false)
 or-none true b h = absurd (both-ways refl h)
 or-none false b h = (refl, h)
 

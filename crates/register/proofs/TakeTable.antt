@@ -1,18 +1,19 @@
 -- The rows of a take's table.
 -- Assumes nothing.
 use Prim.Native.Nat.{ℕ, _≤_, _<_}
+use native.Mathlib.Omega.{arith}
 use mathlib.Core.Path.{_≡_, _∙_, ap}
 use mathlib.Core.List.{List, [], _∷_}
 use mathlib.Core.Bool.{true, false, not, _||_}
-use lib.Dec.{leb, eqb}
-use borrow.Author.Tests.{le-leb, lt-leb, eq-eqb, ne-eqb}
+use lib.Dec.{leb}
+use borrow.Author.Tests.{le-leb, lt-leb, leb-false, not-false}
 use Rattle.order.proofs.BoolLaws.{not-failed, or-left, or-right, or-next}
-use Rattle.book.specs.Layout.{countsOf, linkOf, held, taken}
+use Rattle.book.specs.Layout.{countsOf}
 use Rattle.fit.specs.Fit.{fit}
-use Rattle.register.specs.Table.{first, takeNumber}
+use Rattle.register.specs.Table.{first}
 use Rattle.register.specs.Checks.{linkNumber}
 use Rattle.register.proofs.TableLaws.{first-stop, first-next, first-none}
-use Rattle.register.proofs.CallLaws.{first-keeps}
+use Rattle.register.proofs.Numbers.{first-passed, or-none}
 
 module _ (l : List ℕ) (d s from : ℕ) where
   pub link-book : fit l ≡ false → linkNumber l d s from ≡ 1
@@ -37,3 +38,12 @@ module _ (l : List ℕ) (d s from : ℕ) where
   pub link-good : fit l ≡ true → d < countsOf l .depots → from < countsOf l .depots → s < countsOf l .shelves → linkNumber l d s from ≡ 0
   unfolding linkNumber
   link-good f h k j = first-next _ _ _ (ap not f) ∙ first-next _ _ _ (both h k) ∙ first-next _ _ _ (lt-leb _ _ j) ∙ first-none
+
+  pub link-open : linkNumber l d s from ≡ 0 → (fit l ≡ true) × (d < countsOf l .depots) × (from < countsOf l .depots) × (s < countsOf l .shelves)
+  unfolding linkNumber
+  link-open h =
+      let a = first-passed (not (fit l)) 1 _ (omega arith) h in
+      let b = first-passed (leb (countsOf l .depots) d || leb (countsOf l .depots) from) 2 _ (omega arith) (a .1) in
+      let c = first-passed (leb (countsOf l .shelves) s) 3 _ (omega arith) (b .1) in
+      let e = or-none (leb (countsOf l .depots) d) _ (b .0) in
+      (not-false _ (a .0), leb-false _ _ (e .0), leb-false _ _ (e .1), leb-false _ _ (c .0))

@@ -1,0 +1,48 @@
+// Tick: the clock moves on by one; a heartbeat with it goes on every link out.
+use crate::answer::Answer;
+use crate::answer::Refusal;
+use crate::check::PlaceCheck;
+use crate::check::check_place;
+use book::layout::BEAT;
+use book::numbers::Depot;
+use book::numbers::Shelf;
+use book::parts::clock_of;
+use book::parts::counts_of;
+use shelf::send::END;
+use shelf::send::is_roomy;
+use shelf::send::send;
+ghost use mathlib.Core.Path.{_≡_};
+ghost use mathlib.Core.Bool.{true};
+ghost use Prim.Native.Nat.{_<_};
+ghost use Rattle.book.specs.Layout.{countsOf};
+ghost use Rattle.fit.specs.Fit.{fit};
+ghost use Rattle.register.specs.Promises.{Tick};
+
+fn tick_at(book: &mut [u32], d: Depot, s: Shelf) -> Answer
+    requires { ⌜ (fit (now book) ≡ true) × (d .0 < countsOf (now book) .depots) × (s .0 < countsOf (now book) .shelves) ⌝ }
+    ensures { λ r. ⌜ Tick (now (book .entry)) (d .0) (s .0) r (now (book .exit)) ⌝ }
+{
+    let clock = clock_of(book, d, s);
+    if END <= clock {
+        return Answer::Refused(Refusal::ClockAtEnd);
+    }
+    let n = counts_of(book);
+    let depots = n.depots;
+    if !is_roomy(book, depots, d, s) {
+        return Answer::Refused(Refusal::LinkFull);
+    }
+    let stamp = clock + 1;
+    let beat = [BEAT, stamp, 0, 0, 0, 0, 0, 0, 0, 0];
+    send(book, depots, d, s, stamp, &beat);
+    Answer::Done
+}
+
+// Refuses, in this order: BAD BOOK, BAD DEPOT, BAD SHELF, CLOCK AT END, LINK FULL. Room is judged on all links out before any message is sent.
+pub fn tick(book: &mut [u32], depot: u32, shelf: u32) -> Answer
+    ensures { λ r. ⌜ Tick (now (book .entry)) depot shelf r (now (book .exit)) ⌝ }
+{
+    match check_place(book, depot, shelf) {
+        PlaceCheck::Bad(r) => Answer::Refused(r),
+        PlaceCheck::Good(d, s) => tick_at(book, d, s),
+    }
+}
