@@ -79,7 +79,7 @@ made-version l c k value W hc hk =
         own : madeVector l c k (home l c) ≡ newStamp l c k
         own = unfold madeVector in pick-true (newStamp l c k) (crewVector l c (home l c)) (eq-eqb (home l c) (home l c) refl)
 
-made-bearing : (l : List ℕ) (c k value : ℕ) → bearingOf (madeRecord l c k value) ≡ k
+pub made-bearing : (l : List ℕ) (c k value : ℕ) → bearingOf (madeRecord l c k value) ≡ k
 unfolding madeRecord
 made-bearing l c k value = refl
 
@@ -146,7 +146,7 @@ module _ (l : List ℕ) (c k value : ℕ) (t : WriteDone l c k) where
       ∙ settled-off (countsOf l .depots) (home l c) (shelfOf l k) (crewVector l c) l (whole-ready (countsOf l) l W (home l c) (shelfOf l k) hc hs)
       (heldAt (linkOf (shelfOf l k) (home l c) to)) (omega arith) (λ from i j. (omega arith, omega arith)) (omega arith)
 
-  free : Free (countsOf l .depots) (home l c) (shelfOf l k) (keptIn (countsOf l .depots) (home l c) (madeRecord l c k value) (writtenCrew l c k))
+  pub free : Free (countsOf l .depots) (home l c) (shelfOf l k) (keptIn (countsOf l .depots) (home l c) (madeRecord l c k value) (writtenCrew l c k))
   free =
       let old = roomy-free (countsOf l) l W (home l c) (shelfOf l k) hc hs (t .room) in
       record { depots = old .depots; depot = old .depot; shelf = old .shelf; room = λ to z f. subst (λ (x : ℕ). x < 16) (sym (out-stays to z f)) (old .room to z f) }

@@ -1,15 +1,34 @@
 -- Raising with a vector that was copied out: only the entries that count are read.
 -- Assumes nothing.
-use Prim.Native.Nat.{ℕ, zero, suc, _≤_, _<_}
+use Prim.Native.Nat.{ℕ, zero, suc, _+_, _-_, _%_, _≤_, _<_}
 use native.Mathlib.Nat.{lt-of-lt-of-le}
 use native.Mathlib.Omega.{arith}
-use mathlib.Core.Path.{_≡_, refl, _∙_, ap}
-use mathlib.Core.List.{List}
+use mathlib.Core.Path.{_≡_, refl, sym, _∙_, ap, ap₂, subst, subst₂}
+use mathlib.Core.Logic.{⊎-elim}
+use mathlib.Core.List.{List, [], _∷_}
+use mathlib.Core.Bool.{true, false}
+use lib.Dec.{ltb}
+use lib.ListN.{getD, take, drop}
+use lib.Seq.{getD-take, getD-drop}
+use borrow.Author.Tests.{ltb-true}
+use Rattle.order.specs.Loops.{pick}
 use Rattle.order.specs.Vector.{Vec, vectorIn, mergeOne, mergedAt}
+use Rattle.order.specs.Record.{vectorOf}
+use Rattle.order.proofs.BoolLaws.{decided, pick-true, pick-false}
 use Rattle.order.proofs.LoopLaws.{times-same}
-use Rattle.book.specs.Layout.{stableAt}
+use Rattle.book.specs.declared.parts.Counts.{Counts}
+use Rattle.book.specs.Layout.{stableAt, storedAt, crewAt, countsOf, home, crewVector, stored}
+use Rattle.book.proofs.WordsLaws.{part-from}
+use Rattle.shelf.specs.Asks.{Ready}
 use Rattle.shelf.specs.Show.{shown, settled}
 use Rattle.shelf.specs.Send.{fourOf}
+use Rattle.register.specs.declared.answer.ReadAnswer.{ReadAnswer}
+use Rattle.register.specs.Answers.{cut, tells}
+use Rattle.register.specs.Calls.{settledHome, readRecord, readBook}
+use Rattle.register.proofs.FitParts.{Whole}
+use Rattle.register.proofs.FitSettled.{whole-ready}
+use Rattle.register.proofs.FitKept.{shelf-in}
+use Rattle.register.proofs.FitWrite.{cut-at}
 
 pub merged-same : (n d at : ℕ) (u v : Vec) (l : List ℕ) → ((x : ℕ) → x < n → u x ≡ v x) → mergedAt n d u at l ≡ mergedAt n d v at l
 unfolding mergedAt
@@ -28,3 +47,55 @@ four-at v (suc (suc (suc (suc x)))) h = absurd (omega arith)
 
 pub settled-four : (n d s : ℕ) (v : Vec) (l : List ℕ) {w : List ℕ} → n ≤ 4 → w ≡ fourOf v → settled n d s (vectorIn w) l ≡ settled n d s v l
 settled-four n d s v l {w} h e = settled-same n d s (vectorIn w) v l λ x k. ap (λ (m : List ℕ). vectorIn m x) e ∙ four-at v x (lt-of-lt-of-le k h)
+
+-- ---- a crew's home shelf
+
+module _ (l : List ℕ) (c k : ℕ) {n : Counts} {d s : ℕ} (en : n ≡ countsOf l) (ed : d ≡ home l c) (es : s ≡ k % n .shelves) where
+  pub home-done : {m : List ℕ} → m ≡ settled (n .depots) d s (crewVector l c) l → m ≡ settledHome l c k
+  unfolding settledHome
+  home-done h =
+      h
+      ∙ ap₂ (λ (x y : ℕ). settled (n .depots) x y (crewVector l c) l) ed es
+      ∙ ap (λ (m : Counts). settled (m .depots) (home l c) (k % m .shelves) (crewVector l c) l) en
+
+  pub home-ready : Whole (countsOf l) l → c < countsOf l .crews → Ready (n .depots) d s l
+  home-ready W hc =
+      subst₂ (λ (x y : ℕ). Ready (n .depots) x y l) (sym ed) (sym es)
+      (subst (λ (m : Counts). Ready (m .depots) (home l c) (k % m .shelves) l) (sym en)
+      (whole-ready (countsOf l) l W (home l c) (k % countsOf l .shelves) (W .parts .homes c hc) (shelf-in (countsOf l) l W k)))
+
+-- ---- what a read tells, and the crew's maximum with it
+
+pub cut-same : (n : ℕ) (u v : Vec) → n ≤ 4 → ((x : ℕ) → x < n → u x ≡ v x) → cut n u ≡ cut n v
+unfolding cut
+cut-same n u v h e = λ i. one 0 i ∷ one 1 i ∷ one 2 i ∷ one 3 i ∷ []
+  where
+    one : (x : ℕ) → pick (ltb x n) (u x) 0 ≡ pick (ltb x n) (v x) 0
+    one x =
+        ⊎-elim
+        (λ (b : ltb x n ≡ true). pick-true (u x) 0 b ∙ e x (ltb-true x n b) ∙ sym (pick-true (v x) 0 b))
+        (λ (b : ltb x n ≡ false). pick-false (u x) 0 b ∙ sym (pick-false (v x) 0 b))
+        (decided (ltb x n))
+
+-- the vector as the last four words of a record
+pub cut-part : (n : ℕ) (r : List ℕ) → n ≤ 4 → cut n (vectorIn (take 4 (drop 5 r))) ≡ cut n (vectorOf r)
+cut-part n r h = cut-same n _ _ h λ x l. getD-take 4 (drop 5 r) x 0 (lt-of-lt-of-le l h) ∙ getD-drop 5 r x 0
+
+module _ (l : List ℕ) (c k : ℕ) {n : Counts} (en : n ≡ countsOf l) {m : List ℕ} (em : m ≡ settledHome l c k) where
+  pub told-done : {d at : ℕ} {r : ReadAnswer} → d ≡ home l c → at ≡ storedAt d k → r ≡ tells (n .depots) (take (at + 9 - at) (drop at m)) → r ≡ tells (countsOf l .depots) (readRecord l c k)
+  unfolding readRecord
+  told-done {d} {at} ed ea h =
+      h
+      ∙ ap (λ (v : Counts). tells (v .depots) (take (at + 9 - at) (drop at m))) en
+      ∙ ap (tells (countsOf l .depots)) (part-from m 9 ea ∙ ap₂ (λ (w : List ℕ) (x : ℕ). stored w x k) em ed)
+
+  pub merged-done :
+      {at : ℕ} {r : ReadAnswer} {m₂ : List ℕ} → countsOf l .depots ≤ 4 → at ≡ crewAt c → r ≡ tells (countsOf l .depots) (readRecord l c k) →
+      m₂ ≡ mergedAt (n .depots) (n .depots) (vectorIn (r .vector)) at m → m₂ ≡ readBook l c k
+  unfolding readBook tells
+  merged-done {at} {r} small ea er h =
+      h
+      ∙ ap (λ (v : Counts). mergedAt (v .depots) (v .depots) (vectorIn (r .vector)) at m) en
+      ∙ ap₂ (λ (w : List ℕ) (x : ℕ). mergedAt (countsOf l .depots) (countsOf l .depots) (vectorIn (r .vector)) x w) em ea
+      ∙ merged-same (countsOf l .depots) _ _ (vectorIn (r .vector)) (vectorOf (readRecord l c k)) (settledHome l c k)
+      (λ x z. ap (λ (a : ReadAnswer). getD (a .vector) x 0) er ∙ cut-at (countsOf l .depots) (vectorOf (readRecord l c k)) x small z)

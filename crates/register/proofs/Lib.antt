@@ -3,7 +3,6 @@ pub mod KindLaws
 pub mod CallLaws
 pub mod TakeTable
 pub mod SendTable
-pub mod HomeLaws
 pub mod FitParts
 pub mod FitFrame
 pub mod FitMessage
@@ -18,3 +17,4 @@ pub mod FitSetup
 pub mod History
 pub mod NeverBadBook
 pub mod NeverBadAnswer
+pub mod HomeLaws

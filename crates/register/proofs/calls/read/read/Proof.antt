@@ -1,0 +1,53 @@
+-- `register::calls::read::read` meets its contract: the shared checks, then the rest.
+-- Assumes nothing.
+use Prim.Native.Nat.{ℕ, _<_}
+use mathlib.Core.Path.{_≡_, _∙_, refl, sym, ap, subst, subst₂}
+use denote.Ref.{now}
+use Rattle.order.proofs.BoolLaws.{pick-false}
+use Rattle.book.specs.Layout.{countsOf}
+use Rattle.book.specs.declared.numbers.Crew.{Crew}
+use Rattle.book.specs.declared.numbers.Bearing.{Bearing}
+use Rattle.register.specs.declared.answer.Refusal.{Refusal}
+use Rattle.register.specs.declared.answer.Finding.{Finding}
+use Rattle.register.specs.declared.answer.ReadAnswer.{ReadAnswer}
+use mathlib.Core.List.{[], _∷_}
+use Rattle.register.specs.Answers.{readRefused}
+use Rattle.register.specs.Promises.{Read}
+use Rattle.register.proofs.CallLaws.{bad-asked, good-asked, after-refused}
+use Rattle.register.proofs.Numbers.{read-done}
+use borrow.Author.Needs.{needs}
+use Rattle.register.proofs.calls.read.read.Statement.{statement}
+use Rattle.register.proofs.calls.read.read.Tie as tie
+
+read-at-requires : tie.Need-read-at-requires
+read-at-requires c κs =
+    let at = c .before .before .before .before in
+    let args = at .before .before .before .args in
+    let book = now (args .book) in
+    let good = good-asked _ _ _ _ _ (at .check-asked .ensures) (c .before .before .c .given .1) in
+    let done = read-done book (args .crew) (args .bearing) (good .0) in (
+      done .fits,
+      subst (λ (x : Crew). x .0 < countsOf book .crews) (good .1) (done .crew),
+      subst (λ (x : Bearing). x .0 < countsOf book .bearings) (good .2) (done .bearing),
+    )
+
+returns : tie.Need-returns
+unfolding readRefused
+returns c =
+    let at = c .before .before .before in
+    let bad = bad-asked _ _ _ _ (at .check-asked .ensures) (c .before .r .given .1) in
+    record {
+      answer = (λ z. record { finding = Finding.Refused (sym (bad .1) z); vector = 0 ∷ 0 ∷ 0 ∷ 0 ∷ [] }) ∙ sym (pick-false _ _ (bad .0));
+      book = after-refused _ _ _ (bad .0);
+    }
+
+returns-2 : tie.Need-returns-2
+returns-2 c =
+    let call = c .before .before .read-at in
+    let at = c .before .before .before .before .before .before .before in
+    let book = now (at .before .before .before .args .book) in
+    let good = good-asked _ _ _ _ _ (at .check-asked .ensures) (c .before .before .before .before .before .c .given .1) in
+    subst₂ (λ (x : Crew) (y : Bearing). Read book (x .0) (y .0) (call .result) (call .last .0)) (sym (good .1)) (sym (good .2)) (call .ensures)
+
+pub read-spec : {M : Type 1} → statement M
+read-spec = tie.close (tie.spec (λ c κs. search needs) (λ c. search needs) (λ c. search needs) read-at-requires (λ c. search needs) returns (λ c. search needs) returns-2)

@@ -1,0 +1,76 @@
+// Read: raise and show with the crew's vector at the home shelf; answer the stored value or that it is unwritten, with its vector; the crew's vector
+// becomes the entrywise maximum with it.
+use crate::answer::Finding;
+use crate::answer::ReadAnswer;
+use crate::calls::home::cut_vector;
+use crate::calls::home::home_depot;
+use crate::calls::home::settle_home;
+use crate::calls::home::shelf_for;
+use crate::check::AskCheck;
+use crate::check::check_asked;
+use book::layout::crew_at;
+use book::layout::stored_at;
+use book::numbers::Bearing;
+use book::numbers::Crew;
+use book::parts::counts_of;
+use order::record::RECORD_WORDS;
+use order::record::VALUE;
+use order::record::VECTOR;
+use order::vector::is_zero;
+use order::vector::merge;
+ghost use mathlib.Core.Path.{_≡_};
+ghost use mathlib.Core.Bool.{true};
+ghost use Prim.Native.Nat.{_<_, _≤_};
+ghost use lib.ListN.{length};
+ghost use Rattle.order.specs.Record.{mostDepots, recordWords};
+ghost use Rattle.book.specs.Layout.{countsOf};
+ghost use Rattle.fit.specs.Fit.{fit};
+ghost use Rattle.register.specs.Answers.{tells};
+ghost use Rattle.register.specs.Promises.{Read};
+
+// What a read tells of a stored record.
+fn tell(version: &[u32], n: usize) -> ReadAnswer
+    requires { ⌜ (length (now version) ≡ recordWords) × (n ≤ mostDepots) ⌝ }
+    ensures { λ r. ⌜ r ≡ tells n (now (version .entry)) ⌝ }
+{
+    let vector = cut_vector(&version[VECTOR..RECORD_WORDS], n);
+    if is_zero(&version[VECTOR..RECORD_WORDS], n) {
+        return ReadAnswer {
+            finding: Finding::Unwritten,
+            vector: vector,
+        };
+    }
+    ReadAnswer {
+        finding: Finding::Value(version[VALUE]),
+        vector: vector,
+    }
+}
+
+fn read_at(book: &mut [u32], c: Crew, k: Bearing) -> ReadAnswer
+    requires { ⌜ (fit (now book) ≡ true) × (c .0 < countsOf (now book) .crews) × (k .0 < countsOf (now book) .bearings) ⌝ }
+    ensures { λ r. ⌜ Read (now (book .entry)) (c .0) (k .0) r (now (book .exit)) ⌝ }
+{
+    let n = counts_of(book);
+    let depots = n.depots;
+    let d = home_depot(book, n, c);
+    settle_home(book, depots, c, d, shelf_for(k, n));
+    let at = stored_at(d, k);
+    let end = at + RECORD_WORDS;
+    let answer = tell(&book[at..end], depots);
+    let vector = answer.vector;
+    merge(book, crew_at(c), &vector, depots, depots);
+    answer
+}
+
+// Refuses, in this order: BAD BOOK, BAD CREW, BAD KEY.
+pub fn read(book: &mut [u32], crew: u32, bearing: u32) -> ReadAnswer
+    ensures { λ r. ⌜ Read (now (book .entry)) crew bearing r (now (book .exit)) ⌝ }
+{
+    match check_asked(book, crew, bearing) {
+        AskCheck::Bad(r) => ReadAnswer {
+            finding: Finding::Refused(r),
+            vector: [0, 0, 0, 0],
+        },
+        AskCheck::Good(c, k) => read_at(book, c, k),
+    }
+}
