@@ -18,3 +18,4 @@ pub mod History
 pub mod NeverBadBook
 pub mod NeverBadAnswer
 pub mod HomeLaws
+pub mod WriteLaws

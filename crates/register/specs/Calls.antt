@@ -4,7 +4,7 @@ use Prim.Native.Nat.{ℕ, _+_}
 use mathlib.Core.Bool.{Bool}
 use mathlib.Core.List.{List, [], _∷_}
 use lib.Dec.{eqb}
-use lib.ListN.{set, replicate}
+use lib.ListN.{getD, set, replicate}
 use Rattle.order.specs.Loops.{pick}
 use Rattle.order.specs.Vector.{Vec, mergedAt}
 use Rattle.order.specs.Order.{above}
@@ -14,6 +14,7 @@ use Rattle.book.specs.Words.{put}
 use Rattle.book.specs.Layout.{bookWords, crewAt, copyKind, countsOf, home, crewVector, clock, stored}
 use Rattle.shelf.specs.Show.{keptIn, settled}
 use Rattle.shelf.specs.Send.{sent, beat, took, lowestSeen}
+use Rattle.register.specs.declared.calls.write.Version.{Version}
 use Rattle.register.specs.Answers.{cut}
 use Rattle.register.specs.Table.{shelfOf}
 
@@ -69,3 +70,13 @@ takeBook l d s from = took d s from l
 -- refresh: raise and show with, for each other depot, the lowest stamp seen over all shelves here
 unfoldable pub refreshBook : List ℕ → ℕ → ℕ → List ℕ
 refreshBook l d s = settled (countsOf l .depots) d s (lowestSeen (countsOf l .depots) (countsOf l .shelves) d l) l
+
+-- ---- the version that a write makes, as its words
+
+-- a vector with one entry set
+unfoldable pub withEntry : ℕ → ℕ → Vec → Vec
+withEntry d stamp v x = pick (eqb x d) stamp (v x)
+
+abbrev pub versionWords : Version → List ℕ
+versionWords v =
+    v .bearing ∷ v .value ∷ 0 ∷ 0 ∷ v .origin ∷ getD (v .vector) 0 0 ∷ getD (v .vector) 1 0 ∷ getD (v .vector) 2 0 ∷ getD (v .vector) 3 0 ∷ []

@@ -1,6 +1,7 @@
 -- What the shared checks answer: the numbers that were named, each of its own kind, or the refusal.
 -- Assumes nothing.
-use Prim.Native.Nat.{ℕ}
+use Prim.Native.Nat.{ℕ, _+_}
+use mathlib.Core.Path.{_≡_}
 use mathlib.Core.Bool.{_||_, not}
 use mathlib.Core.List.{List, [], _∷_}
 use lib.Dec.{eqb, leb}
@@ -8,9 +9,9 @@ use Rattle.order.specs.Loops.{pick}
 use Rattle.register.specs.declared.check.PlaceCheck.{PlaceCheck}
 use Rattle.register.specs.declared.check.AskCheck.{AskCheck}
 use Rattle.register.specs.declared.check.LinkCheck.{LinkCheck}
-use Rattle.book.specs.Layout.{countsOf}
+use Rattle.book.specs.Layout.{countsOf, home, clock}
 use Rattle.fit.specs.Fit.{fit}
-use Rattle.register.specs.Table.{first}
+use Rattle.register.specs.Table.{first, shelfOf, writeNumber}
 use Rattle.register.specs.Answers.{refusalOf}
 
 -- a depot and a shelf, where the number is 0
@@ -32,3 +33,11 @@ linkNumber l d s from = first
 -- these three, where the number is 0
 unfoldable pub linkOfNumber : ℕ → ℕ → ℕ → ℕ → LinkCheck
 linkOfNumber number d s from = pick (eqb number 0) (LinkCheck.Good (record { 0 = d }) (record { 0 = s }) (record { 0 = from })) (LinkCheck.Bad (refusalOf number))
+
+-- crew c may write bearing k, at its home: n depots, home depot d, shelf s, and the stamp that it gets
+pub record MayWrite (l : List ℕ) (c k n d s stamp : ℕ) : Type 0 where
+  pub passed : writeNumber l c k ≡ 0
+  pub depots : n ≡ countsOf l .depots
+  pub depot : d ≡ home l c
+  pub shelf : s ≡ shelfOf l k
+  pub stamped : stamp ≡ clock l (home l c) (shelfOf l k) + 1
