@@ -16,10 +16,11 @@ use Rattle.book.specs.declared.numbers.Bearing.{Bearing}
 use Rattle.book.specs.declared.numbers.Crew.{Crew}
 use Rattle.register.specs.declared.answer.Refusal.{Refusal}
 use Rattle.register.specs.declared.answer.Answer.{Answer}
+use Rattle.register.specs.declared.answer.WriteAnswer.{WriteAnswer}
 use Rattle.register.specs.declared.check.PlaceCheck.{PlaceCheck}
 use Rattle.register.specs.declared.check.AskCheck.{AskCheck}
 use Rattle.register.specs.declared.check.LinkCheck.{LinkCheck}
-use Rattle.register.specs.Answers.{refusalOf, answerOf}
+use Rattle.register.specs.Answers.{refusalOf, answerOf, writeRefused}
 use Rattle.register.specs.Table.{first}
 use Rattle.register.specs.Checks.{placeOf, askedOf, linkOfNumber}
 use Rattle.register.specs.Promises.{after}
@@ -49,6 +50,11 @@ after-done n changed l e = sym (pick-true _ _ (eq-eqb n 0 e))
 -- a refusal with a number that is known
 pub refused-answer : (n m : ℕ) {r : Refusal} → n ≡ m → eqb m 0 ≡ false → refusalOf m ≡ r → Answer.Refused r ≡ answerOf n
 refused-answer n m e h q = answer-refused n (ap (λ (x : ℕ). eqb x 0) e ∙ h) (ap refusalOf e ∙ q)
+
+pub refused-write :
+    (n m : ℕ) {r : Refusal} (done : WriteAnswer) → n ≡ m → eqb m 0 ≡ false → refusalOf m ≡ r → WriteAnswer.Refused r ≡ pick (eqb n 0) done (writeRefused n)
+unfolding writeRefused
+refused-write n m done e h q = ap WriteAnswer.Refused (sym (ap refusalOf e ∙ q)) ∙ sym (pick-false _ _ (ap (λ (x : ℕ). eqb x 0) e ∙ h))
 
 pub refused-book : (n m : ℕ) (changed l : List ℕ) → n ≡ m → eqb m 0 ≡ false → l ≡ after n changed l
 refused-book n m changed l e h = after-refused n changed l (ap (λ (x : ℕ). eqb x 0) e ∙ h)

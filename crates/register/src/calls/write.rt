@@ -161,3 +161,34 @@ fn write_version(
     send(book, n, d, s, stamp, &message);
     answered(current, stamp)
 }
+
+fn write_at(book: &mut [u32], c: Crew, k: Bearing, value: u32) -> WriteAnswer
+    requires { ⌜ (fit (now book) ≡ true) × (c .0 < countsOf (now book) .crews) × (k .0 < countsOf (now book) .bearings) ⌝ }
+    ensures { λ r. ⌜ Write (now (book .entry)) (c .0) (k .0) value r (now (book .exit)) ⌝ }
+{
+    let n = counts_of(book);
+    let depots = n.depots;
+    let d = home_depot(book, n, c);
+    let s = shelf_for(k, n);
+    let clock = clock_of(book, d, s);
+    if clock < book[crew_at(c) + d.index()] {
+        return WriteAnswer::Refused(Refusal::Wait);
+    }
+    if END <= clock {
+        return WriteAnswer::Refused(Refusal::ClockAtEnd);
+    }
+    if !is_roomy(book, depots, d, s) {
+        return WriteAnswer::Refused(Refusal::LinkFull);
+    }
+    write_version(book, depots, c, k, d, s, clock + 1, value)
+}
+
+// Refuses, in this order: BAD BOOK, BAD CREW, BAD KEY, WAIT, CLOCK AT END, LINK FULL. Room is judged before raising.
+pub fn write(book: &mut [u32], crew: u32, bearing: u32, value: u32) -> WriteAnswer
+    ensures { λ r. ⌜ Write (now (book .entry)) crew bearing value r (now (book .exit)) ⌝ }
+{
+    match check_asked(book, crew, bearing) {
+        AskCheck::Bad(r) => WriteAnswer::Refused(r),
+        AskCheck::Good(c, k) => write_at(book, c, k, value),
+    }
+}

@@ -76,10 +76,11 @@ send-requires c κs =
     let kept = c .before .before .before .before in
     let stamped = kept .before .before .before .before .before .before in
     let start = stamped .before .before .before .before .before in
-    let h = limits start in
-    ( kept .keep-record .kept .0 ∙ stamped .stamp-crew .kept .0 ∙ h .0
-    , ap length (copy-said (stamped .before .before)) ∙ ap suc (length-made _ _ _ _)
-    , may-free _ _ _ (start .args .value) (start .pre) (store-said kept))
+    let h = limits start in (
+      kept .keep-record .kept .0 ∙ stamped .stamp-crew .kept .0 ∙ h .0,
+      ap length (copy-said (stamped .before .before)) ∙ ap suc (length-made _ _ _ _),
+      may-free _ _ _ (start .args .value) (start .pre) (store-said kept),
+    )
 
 returns : tie.Need-returns
 returns c =
@@ -88,11 +89,12 @@ returns c =
     let stamped = kept .before .before .before .before .before .before in
     let start = stamped .before .before .before .before .before in
     let args = start .args in
-    let book = now (args .book) in
-    ( answer-made book _ _ (args .value) (start .pre)
-      (current-made book _ _ (args .value) (start .pre) (record-said (stamped .before .before)) (crew-said stamped) (kept .keep-record .ensures .0))
-      (c .answered .ensures)
-    , sent-made book _ _ (args .value) (start .pre) (copy-said (stamped .before .before)) (store-said kept) (sent .send .ensures))
+    let book = now (args .book) in (
+      answer-made book _ _ (args .value) (start .pre)
+          (current-made book _ _ (args .value) (start .pre) (record-said (stamped .before .before)) (crew-said stamped) (kept .keep-record .ensures .0))
+          (c .answered .ensures),
+      sent-made book _ _ (args .value) (start .pre) (copy-said (stamped .before .before)) (store-said kept) (sent .send .ensures),
+    )
 
 pub write-version-spec : {M : Type 1} → statement M
 write-version-spec = tie.close (tie.spec made-copy-requires stamp-crew-requires (λ c. search needs) (λ c. search needs) (λ c. search needs) keep-record-requires (λ c. search needs) send-requires (λ c κs. search needs) (λ c. search needs) returns)

@@ -1,0 +1,200 @@
+-- `register::calls::write::write_at` meets its contract: the checks that need the home shelf, then the version.
+-- Assumes nothing.
+use Prim.Native.Nat.{ℕ, _+_, _%_, _≤_, _<_}
+use native.Mathlib.Nat.{lt-of-lt-of-le}
+use native.Mathlib.Omega.{arith}
+use mathlib.Core.Path.{_≡_, _∙_, refl, sym, ap, subst, subst₂}
+use denote.Ref.{now}
+use lib.Dec.{lit≤}
+use lib.ListN.{getD}
+use borrow.Author.Tests.{eq-eqb}
+use Rattle.order.proofs.BoolLaws.{pick-true, test-passed, test-failed}
+use Rattle.book.specs.declared.parts.Counts.{Counts}
+use Rattle.book.specs.Layout.{countsOf, home, crewVector, clock}
+use Rattle.shelf.specs.Send.{roomy}
+use Rattle.register.specs.Answers.{refusalOf}
+use Rattle.register.specs.Table.{shelfOf, writeNumber}
+use Rattle.register.specs.Checks.{MayWrite}
+use Rattle.register.proofs.CallLaws.{not-done, refused-write, refused-book, after-done}
+use Rattle.register.proofs.FitParts.{Whole, whole-open}
+use Rattle.register.proofs.FitKept.{shelf-in}
+use Rattle.register.proofs.SendTable.{write-wait, write-end, write-full, write-good}
+use borrow.Author.Needs.{needs}
+use Rattle.register.proofs.calls.write.write_at.Statement.{statement}
+use Rattle.register.proofs.calls.write.write_at.Tie as tie
+
+-- a fit book, part by part
+whole : (c : tie.Start) → Whole (countsOf (now (c .args .book))) (now (c .args .book))
+whole c = whole-open _ (c .pre .0)
+
+-- where the write stands: the home shelf's clock, and the crew's home entry
+clock-said :
+    (c : tie.After-clock-of) →
+    let args = c .before .before .before .before .before .before .before .before .args in
+    let book = now (args .book) in
+    c .clock-of .result ≡ clock book (home book (args .c .0)) (shelfOf book (args .k .0))
+clock-said c =
+    let counts = c .before .before .before .before .before in
+    let args = counts .before .before .before .args in
+    let book = now (args .book) in
+    c .clock-of .ensures
+    ∙ (λ z. clock book (c .before .before .before .home-depot .ensures z) (c .before .before .shelf-for .ensures z))
+    ∙ ap (λ (n : Counts). clock book (home book (args .c .0)) (args .k .0 % n .shelves)) (counts .counts-of .ensures)
+
+entry-said :
+    (c : tie.After-index) →
+    let args = c .before .before .before .before .before .before .before .before .before .before .args in
+    let book = now (args .book) in
+    getD book (c .before .crew-at .result + c .index .result) 0 ≡ crewVector book (args .c .0) (home book (args .c .0))
+entry-said c =
+    let book = now (c .before .before .before .before .before .before .before .before .before .before .args .book) in
+    let own = c .index .ensures ∙ c .before .before .before .before .before .home-depot .ensures in
+    λ z. getD book (c .before .crew-at .ensures z + own z) 0
+
+-- the numbers that name the parts
+small :
+    (c : tie.After-shelf-for) →
+    let start = c .before .before .before .before .before .before in
+    (c .before .home-depot .result .0 < 4) × (c .shelf-for .result .0 < 4) × (start .args .c .0 < 16) × (c .before .before .before .counts-of .result .depots ≤ 4)
+small c =
+    let start = c .before .before .before .before .before .before in
+    let w = whole start in
+    let n = c .before .before .before .counts-of .ensures in (
+      subst (λ (x : ℕ). x < 4) (sym (c .before .home-depot .ensures)) (lt-of-lt-of-le (w .parts .homes _ (start .pre .1)) (w .within .depots)),
+      subst (λ (x : ℕ). x < 4) (sym (c .shelf-for .ensures))
+          (subst (λ (m : Counts). start .args .k .0 % m .shelves < 4) (sym n) (lt-of-lt-of-le (shelf-in (countsOf (now (start .args .book))) (now (start .args .book)) w (start .args .k .0)) (w .within .shelves))),
+      lt-of-lt-of-le (start .pre .1) (w .within .crews),
+      subst (λ (m : Counts). m .depots ≤ 4) (sym n) (w .within .depots),
+    )
+
+-- what each test that was passed says
+told-no-wait :
+    (c : tie.Else1) →
+    let args = c .before .before .before .before .before .before .before .before .before .before .before .before .args in
+    let book = now (args .book) in
+    crewVector book (args .c .0) (home book (args .c .0)) ≤ clock book (home book (args .c .0)) (shelfOf book (args .k .0))
+told-no-wait c =
+    let e = entry-said (c .before .before) in
+    let t = clock-said (c .before .before .before .before) in
+    subst₂ (λ (x y : ℕ). x ≤ y) e t (c .if1 .left)
+
+told-early :
+    (c : tie.Else2) →
+    let args = c .before .before .before .before .before .before .before .before .before .before .before .before .before .args in
+    let book = now (args .book) in
+    clock book (home book (args .c .0)) (shelfOf book (args .k .0)) < 2147483647
+told-early c = subst (λ (x : ℕ). x < 2147483647) (clock-said (c .before .before .before .before .before)) (c .if2 .left)
+
+roomy-said :
+    (c : tie.After-is-roomy) →
+    let args = c .before .before .before .before .before .before .before .before .before .before .before .before .before .before .before .args in
+    let book = now (args .book) in
+    c .is-roomy .result ≡ roomy (countsOf book .depots) (home book (args .c .0)) (shelfOf book (args .k .0)) book
+roomy-said c =
+    let shelf = c .before .before .before .before .before .before .before .before .before in
+    let counts = shelf .before .before .before in
+    let args = counts .before .before .before .args in
+    let book = now (args .book) in
+    c .is-roomy .ensures
+    ∙ (λ z. roomy (counts .counts-of .result .depots) (shelf .before .home-depot .ensures z) (shelf .shelf-for .ensures z) book)
+    ∙ ap (λ (n : Counts). roomy (n .depots) (home book (args .c .0)) (args .k .0 % n .shelves) book) (counts .counts-of .ensures)
+
+may :
+    (c : tie.Else3) →
+    let shelf = c .before .before .before .before .before .before .before .before .before .before in
+    let counts = shelf .before .before .before in
+    let args = counts .before .before .before .args in
+    MayWrite (now (args .book)) (args .c .0) (args .k .0) (counts .counts-of .result .depots) (shelf .before .home-depot .result .0) (shelf .shelf-for .result .0)
+    (c .before .before .before .before .before .before .before .before .clock-of .result + 1)
+may c =
+    let at2 = c .before .before .before in
+    let shelf = c .before .before .before .before .before .before .before .before .before .before in
+    let counts = shelf .before .before .before in
+    let start = counts .before .before .before in
+    let args = start .args in
+    record {
+      passed = write-good _ _ _ (start .pre .0) (start .pre .1) (start .pre .2) (told-no-wait (at2 .before)) (told-early at2) (test-passed (roomy-said (c .before)) (c .if3 .left));
+      depots = ap (λ (n : Counts). n .depots) (counts .counts-of .ensures);
+      depot = shelf .before .home-depot .ensures;
+      shelf = shelf .shelf-for .ensures ∙ ap (λ (n : Counts). args .k .0 % n .shelves) (counts .counts-of .ensures);
+      stamped = ap (λ (x : ℕ). x + 1) (clock-said (c .before .before .before .before .before .before .before .before));
+    }
+
+counts-of-requires : tie.Need-counts-of-requires
+counts-of-requires c κs = whole (c .before .before) .full
+
+home-depot-requires : tie.Need-home-depot-requires
+home-depot-requires c κs =
+    let start = c .before .before .before .before in
+    let w = whole start in
+    (w .full, lt-of-lt-of-le (start .pre .1) (w .within .crews), subst (λ (n : Counts). home (now (start .args .book)) (start .args .c .0) < n .depots) (sym (c .before .counts-of .ensures)) (w .parts .homes _ (start .pre .1)))
+
+shelf-for-requires : tie.Need-shelf-for-requires
+shelf-for-requires c κs =
+    let start = c .before .before .before .before .before in
+    subst (λ (n : Counts). 0 < n .shelves) (sym (c .before .before .counts-of .ensures)) (whole start .within .shelf)
+
+clock-of-requires : tie.Need-clock-of-requires
+clock-of-requires c κs = let h = small (c .before) in (whole (c .before .before .before .before .before .before .before) .full, h .0, h .1)
+
+crew-at-requires : tie.Need-crew-at-requires
+crew-at-requires c κs = small (c .before .before) .2
+
+add-if1 : tie.Need-add-if1
+add-if1 c = let h = small (c .before .before .before .before) in omega (arith, h .0, h .2, c .index .ensures, c .before .crew-at .ensures)
+
+mul-if1 : tie.Need-mul-if1
+mul-if1 c = let h = small (c .before .before .before .before) in omega (arith, h .0, h .2, c .index .ensures, c .before .crew-at .ensures)
+
+slice-read-if1 : tie.Need-slice-read-if1
+slice-read-if1 c =
+    let h = small (c .before .before .before .before .before) in
+    let full = whole (c .before .before .before .before .before .before .before .before .before .before .before) .full in
+    omega (arith, h .0, h .2, full, c .before .index .ensures, c .before .before .crew-at .ensures)
+
+returns : tie.Need-returns
+unfolding refusalOf
+returns c =
+    let at = c .before .before in
+    let start = at .before .before .before .before .before .before .before .before .before .before in
+    let e = write-wait _ _ _ (start .pre .0) (start .pre .1) (start .pre .2) (subst₂ (λ (x y : ℕ). x < y) (clock-said (at .before .before)) (entry-said at) (c .if1 .taken)) in
+    record { answer = refused-write _ 8 _ e (not-done 8 refl (lit≤ tt)) refl; book = refused-book _ 8 _ _ e (not-done 8 refl (lit≤ tt)) }
+
+returns-2 : tie.Need-returns-2
+unfolding refusalOf
+returns-2 c =
+    let at1 = c .before in
+    let at = at1 .before .before in
+    let start = at .before .before .before .before .before .before .before .before .before .before in
+    let e = write-end _ _ _ (start .pre .0) (start .pre .1) (start .pre .2) (told-no-wait at1) (subst (λ (x : ℕ). 2147483647 ≤ x) (clock-said (at .before .before)) (c .if2 .taken)) in
+    record { answer = refused-write _ 10 _ e (not-done 10 refl (lit≤ tt)) refl; book = refused-book _ 10 _ _ e (not-done 10 refl (lit≤ tt)) }
+
+is-roomy-requires : tie.Need-is-roomy-requires
+is-roomy-requires c κs =
+    let shelf = c .before .before .before .before .before .before .before .before in
+    let h = small shelf in
+    (whole (shelf .before .before .before .before .before .before) .full, h .3, h .0, h .1)
+
+returns-3 : tie.Need-returns-3
+unfolding refusalOf
+returns-3 c =
+    let at2 = c .before .before .before in
+    let start = at2 .before .before .before .before .before .before .before .before .before .before .before .before .before in
+    let e = write-full _ _ _ (start .pre .0) (start .pre .1) (start .pre .2) (told-no-wait (at2 .before)) (told-early at2) (test-failed (roomy-said (c .before)) (c .if3 .taken)) in
+    record { answer = refused-write _ 9 _ e (not-done 9 refl (lit≤ tt)) refl; book = refused-book _ 9 _ _ e (not-done 9 refl (lit≤ tt)) }
+
+add-write-version : tie.Need-add-write-version
+add-write-version c = let t = c .before .before .before .before .if2 .left in omega (arith, t)
+
+write-version-requires : tie.Need-write-version-requires
+write-version-requires c κs = may (c .before)
+
+returns-4 : tie.Need-returns-4
+returns-4 c =
+    let call = c .before .before .write-version in
+    let at3 = c .before .before .before .before in
+    let e = may at3 .passed in
+    record { answer = call .ensures .0 ∙ sym (pick-true _ _ (eq-eqb _ _ e)); book = call .ensures .1 ∙ after-done _ _ _ e }
+
+pub write-at-spec : {M : Type 1} → statement M
+write-at-spec = tie.close (tie.spec counts-of-requires home-depot-requires shelf-for-requires clock-of-requires crew-at-requires (λ c κs. search needs) add-if1 mul-if1 slice-read-if1 (λ c. search needs) returns (λ c. search needs) returns-2 is-roomy-requires (λ c. search needs) returns-3 add-write-version write-version-requires (λ c. search needs) returns-4)
