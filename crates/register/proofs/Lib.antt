@@ -3,6 +3,7 @@ pub mod KindLaws
 pub mod CallLaws
 pub mod TakeTable
 pub mod SendTable
+pub mod SetupLaws
 pub mod FitParts
 pub mod FitFrame
 pub mod FitMessage
@@ -14,8 +15,9 @@ pub mod Numbers
 pub mod FitKept
 pub mod FitWrite
 pub mod FitSetup
+pub mod HomeLaws
+pub mod WriteLaws
 pub mod History
 pub mod NeverBadBook
 pub mod NeverBadAnswer
-pub mod HomeLaws
-pub mod WriteLaws
+pub mod Unique

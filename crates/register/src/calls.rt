@@ -2,6 +2,7 @@
 pub mod home;
 pub mod read;
 pub mod refresh;
+pub mod setup;
 pub mod take;
 pub mod tick;
 pub mod write;
