@@ -2,3 +2,5 @@ pub mod LookLaws
 pub mod RangeLaws
 pub mod MessageLaws
 pub mod FitLaws
+pub mod Unique
+pub mod Examples

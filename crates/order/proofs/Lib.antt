@@ -5,4 +5,8 @@ mod OrderForm
 mod OrderCode
 pub mod OrderLaws
 pub mod RecordLaws
+<<<<<<< HEAD
 pub mod OrderCases
+=======
+pub mod Unique
+>>>>>>> ground
