@@ -1,0 +1,29 @@
+-- The desk's answers to the byte, without the line feed. A refusal, and a call that has nothing more to say, is its number; after the 0 of
+-- a read the value or - and the vector's entries follow, after that of a write the stamp and C or S.
+-- Assumes nothing.
+use Prim.Native.Nat.{ℕ}
+use mathlib.Core.List.{List, [], _∷_, _++_}
+use mathlib.Core.Bool.{Bool, true, false}
+use Rattle.line.specs.Number.{decimal, zeroByte}
+use Rattle.line.specs.Grammar.{spaceByte, spaced}
+
+-- N
+abbrev pub numberAnswer : ℕ → List ℕ
+numberAnswer n = decimal n
+
+-- 0 value v0 .. v(D-1)
+abbrev pub valueAnswer : ℕ → List ℕ → List ℕ
+valueAnswer value vector = zeroByte ∷ ((spaceByte ∷ decimal value) ++ spaced vector)
+
+-- 0 - v0 .. v(D-1)
+abbrev pub unwrittenAnswer : List ℕ → List ℕ
+unwrittenAnswer vector = zeroByte ∷ (spaceByte ∷ (45 ∷ spaced vector))
+
+-- C for current, S for superseded
+abbrev pub standing : Bool → ℕ
+standing true = 67
+standing false = 83
+
+-- 0 stamp C, 0 stamp S
+abbrev pub stampAnswer : ℕ → Bool → List ℕ
+stampAnswer stamp current = zeroByte ∷ ((spaceByte ∷ decimal stamp) ++ (spaceByte ∷ (standing current ∷ [])))
