@@ -5,8 +5,5 @@ mod OrderForm
 mod OrderCode
 pub mod OrderLaws
 pub mod RecordLaws
-<<<<<<< HEAD
 pub mod OrderCases
-=======
 pub mod Unique
->>>>>>> ground

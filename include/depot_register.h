@@ -1,0 +1,90 @@
+/* The depot register, as C sees it. Link target/staticlib/libexport.a (`rt staticlib export` makes it).
+ *
+ * A book is 16,384 words of 32 bits that you own and lend for the time of one call. docs/LAYOUT.md gives every word.
+ * The library keeps nothing between calls, allocates nothing and calls nothing of yours.
+ *
+ * Every call but depot_is_fit, depot_greater and depot_line answers with a number of the table below. A refusal, any
+ * number but 0, changes no word of the book and of `out`.
+ *
+ * A length that is wrong is an answer, not a crash. What C cannot tell is yours to keep: a pointer points to as many
+ * elements as its length says (it may be null where the length is 0), and the buffers of one call do not overlap. The
+ * two records of depot_greater may.
+ */
+#ifndef DEPOT_REGISTER_H
+#define DEPOT_REGISTER_H
+
+#include <stddef.h>
+#include <stdint.h>
+
+#ifdef __cplusplus
+extern "C" {
+#endif
+
+#define DEPOT_BOOK_WORDS 16384 /* words of a book */
+#define DEPOT_RECORD_WORDS 9   /* words of a version record */
+#define DEPOT_READ_WORDS 6     /* room that depot_read's answer takes in `out` */
+#define DEPOT_WRITE_WORDS 2    /* room that depot_write's answer takes in `out` */
+#define DEPOT_LINE_BYTES 120   /* the longest line that is not a BAD LINE, its line feed not counted */
+#define DEPOT_ANSWER_BYTES 64  /* room that every answer line has, its line feed counted */
+
+/* The answers. Each call checks in the order that stands with it, and the first that holds is the answer. */
+enum depot_answer {
+    DEPOT_DONE = 0,
+    DEPOT_BAD_BOOK = 1,      /* the length is not 16,384 or, but for a setup, the book is not fit */
+    DEPOT_BAD_DEPOT = 2,     /* a depot or a home is not below the count of depots */
+    DEPOT_BAD_SHELF = 3,     /* a shelf is not below its count */
+    DEPOT_BAD_KEY = 4,       /* a bearing is not below its count */
+    DEPOT_BAD_CREW = 5,      /* a crew is not below its count */
+    DEPOT_SAME_DEPOT = 6,    /* a take from the depot itself */
+    DEPOT_EMPTY_LINK = 7,    /* a take, and no untaken message stands on the link */
+    DEPOT_WAIT = 8,          /* a write, and the crew's home entry is above the shelf's clock */
+    DEPOT_LINK_FULL = 9,     /* a write or a tick, and some link out has no room */
+    DEPOT_CLOCK_AT_END = 10, /* a write or a tick, and the clock is 2,147,483,647 */
+    DEPOT_BAD_COUNTS = 11,   /* a setup, and a count is out of range or the homes are not as many as the crews */
+    DEPOT_BAD_LINE = 13      /* depot_line only */
+};
+
+/* Makes a fresh register: 1 to 4 depots, 1 to 4 shelves in each, 1 to 64 bearings, 1 to 16 crews, and the home depot of
+ * each crew. Writes every word of the book; its old words are not looked at. Checks: 1, 11, 2. */
+uint32_t depot_setup(uint32_t *book, size_t words, uint32_t depots, uint32_t shelves, uint32_t bearings, uint32_t crews,
+                     const uint32_t *homes, size_t homes_count);
+
+/* A crew reads a bearing at its home. Checks: 1, 5, 4.
+ * Done: out[0] is 1 for written, 0 for unwritten; out[1] the value, 0 if unwritten; out[2] to out[5] the entries of the
+ * vector, 0 past the depots. No other element of `out` is written. With out_count below 6 the read is done, and nothing
+ * is written to `out`. */
+uint32_t depot_read(uint32_t *book, size_t words, uint32_t crew, uint32_t bearing, uint32_t *out, size_t out_count);
+
+/* A crew writes a bearing's value at its home. Checks: 1, 5, 4, 8, 10, 9.
+ * Done: out[0] is the stamp; out[1] is 1 for current, 0 for superseded. No other element of `out` is written. With
+ * out_count below 2 the write is done, and nothing is written to `out`. */
+uint32_t depot_write(uint32_t *book, size_t words, uint32_t crew, uint32_t bearing, uint32_t value, uint32_t *out,
+                     size_t out_count);
+
+/* A shelf's clock moves on by one, and a heartbeat goes on every link out. Checks: 1, 2, 3, 10, 9. */
+uint32_t depot_tick(uint32_t *book, size_t words, uint32_t depot, uint32_t shelf);
+
+/* The shelf of `depot` takes the first untaken message from depot `from`. Checks: 1, 2 for either depot, 3, 6, 7. */
+uint32_t depot_take(uint32_t *book, size_t words, uint32_t depot, uint32_t shelf, uint32_t from);
+
+/* The shelf raises its stable vector to the lowest stamps that the depot's shelves have seen, and shows what that covers.
+ * Checks: 1, 2, 3. */
+uint32_t depot_refresh(uint32_t *book, size_t words, uint32_t depot, uint32_t shelf);
+
+/* 1 if the book is fit, else 0. A book of the wrong length is not. */
+uint32_t depot_is_fit(const uint32_t *book, size_t words);
+
+/* Which of two version records is the greater: 1 if it is b, else 0, and a is the one to keep. A record of another length
+ * than 9 words counts as unwritten. `depots` is 1 to 4; for any other number the answer is 0. */
+uint32_t depot_greater(const uint32_t *a, size_t a_words, const uint32_t *b, size_t b_words, uint32_t depots);
+
+/* One line of the desk. `line` is the line without its line feed, any bytes. The answer, with its line feed, goes to the
+ * start of `out`, no byte past it is written, and its length comes back. With out_length below DEPOT_ANSWER_BYTES nothing
+ * is done, neither book nor `out` is written, and 0 comes back. */
+size_t depot_line(uint32_t *book, size_t words, const uint8_t *line, size_t length, uint8_t *out, size_t out_length);
+
+#ifdef __cplusplus
+}
+#endif
+
+#endif

@@ -1,0 +1,101 @@
+/* A bearing moves to a new motor: a story with two depots, written from depot_register.h alone.
+ *
+ * Depot 0 looks after the pump house, depot 1 after the mill. Bearing 0 is the bearing itself: its entry is the day of its
+ * next greasing. Bearing 1 is the motor's own sheet: its entry is the day from which the motor is in use. The two lie on
+ * different shelves, so the boxes may bring them over in any order. The register never shows the bearing's new day
+ * without what it rests on.
+ */
+#include <stdio.h>
+#include <stdlib.h>
+#include <string.h>
+
+#include "depot_register.h"
+
+enum { PUMP_HOUSE = 0, MILL = 1 };            /* depots */
+enum { PUMP_CREW = 0, MILL_CREW = 1 };        /* crews */
+enum { BEARING = 0, MOTOR = 1, BEARINGS = 4 }; /* bearings */
+enum { BEARING_SHELF = 0, MOTOR_SHELF = 1, SHELVES = 2 };
+
+static uint32_t book[DEPOT_BOOK_WORDS];
+
+/* Ends the story if something is not as told. */
+static void expect(uint32_t found, uint32_t told, const char *what) {
+    if (found != told) {
+        fprintf(stderr, "example: %s: %lu, and not %lu\n", what, (unsigned long)found, (unsigned long)told);
+        exit(1);
+    }
+}
+
+static void writes(uint32_t crew, uint32_t bearing, uint32_t day, uint32_t stamp) {
+    uint32_t out[DEPOT_WRITE_WORDS];
+    expect(depot_write(book, DEPOT_BOOK_WORDS, crew, bearing, day, out, DEPOT_WRITE_WORDS), DEPOT_DONE, "write");
+    expect(out[0], stamp, "stamp");
+    expect(out[1], 1, "current");
+}
+
+/* Prints what a crew finds, and expects it: written or not, and the day. */
+static void reads(const char *who, uint32_t crew, const char *what, uint32_t bearing, uint32_t written, uint32_t day) {
+    uint32_t out[DEPOT_READ_WORDS];
+    expect(depot_read(book, DEPOT_BOOK_WORDS, crew, bearing, out, DEPOT_READ_WORDS), DEPOT_DONE, "read");
+    if (out[0]) {
+        printf("  %s reads %s: day %lu, vector (%lu, %lu)\n", who, what, (unsigned long)out[1], (unsigned long)out[2],
+               (unsigned long)out[3]);
+    } else {
+        printf("  %s reads %s: unwritten\n", who, what);
+    }
+    expect(out[0], written, what);
+    expect(out[1], day, what);
+}
+
+/* The mill takes all that stands on a shelf's link from the pump house, and refreshes the shelf. */
+static void brings_over(uint32_t shelf) {
+    uint32_t answer;
+    do {
+        answer = depot_take(book, DEPOT_BOOK_WORDS, MILL, shelf, PUMP_HOUSE);
+    } while (answer == DEPOT_DONE);
+    expect(answer, DEPOT_EMPTY_LINK, "take");
+    expect(depot_refresh(book, DEPOT_BOOK_WORDS, MILL, shelf), DEPOT_DONE, "refresh");
+}
+
+int main(void) {
+    const uint32_t homes[2] = {PUMP_HOUSE, MILL};
+    const char *line = "R 1 0";
+    uint8_t answer[DEPOT_ANSWER_BYTES];
+    uint32_t out[DEPOT_WRITE_WORDS];
+    size_t length;
+
+    expect(depot_setup(book, DEPOT_BOOK_WORDS, 2, SHELVES, BEARINGS, 2, homes, 2), DEPOT_DONE, "setup");
+    expect(depot_is_fit(book, DEPOT_BOOK_WORDS), 1, "fit");
+
+    puts("The pump crew puts the new motor to use on day 9131, then greases its bearing: next on day 9200.");
+    writes(PUMP_CREW, MOTOR, 9131, 1);
+    expect(depot_write(book, DEPOT_BOOK_WORDS, PUMP_CREW, BEARING, 9200, out, DEPOT_WRITE_WORDS), DEPOT_WAIT, "write too early");
+    puts("  The bearing's shelf is behind what the crew has seen: WAIT. It ticks, and the write passes.");
+    expect(depot_tick(book, DEPOT_BOOK_WORDS, PUMP_HOUSE, BEARING_SHELF), DEPOT_DONE, "tick");
+    writes(PUMP_CREW, BEARING, 9200, 2);
+    reads("the pump crew", PUMP_CREW, "the bearing", BEARING, 1, 9200);
+
+    puts("The bearing's shelf reaches the mill first. Nobody there sees a bearing on a motor they have not heard of.");
+    brings_over(BEARING_SHELF);
+    reads("the mill crew", MILL_CREW, "the bearing", BEARING, 0, 0);
+
+    puts("Then the motor's shelf arrives, with a tick that says: nothing older is on its way.");
+    expect(depot_tick(book, DEPOT_BOOK_WORDS, PUMP_HOUSE, MOTOR_SHELF), DEPOT_DONE, "tick");
+    brings_over(MOTOR_SHELF);
+    expect(depot_refresh(book, DEPOT_BOOK_WORDS, MILL, BEARING_SHELF), DEPOT_DONE, "refresh");
+    reads("the mill crew", MILL_CREW, "the bearing", BEARING, 1, 9200);
+    reads("the mill crew", MILL_CREW, "the motor", MOTOR, 1, 9131);
+
+    puts("A line of the desk asks the same.");
+    length = depot_line(book, DEPOT_BOOK_WORDS, (const uint8_t *)line, strlen(line), answer, sizeof answer);
+    printf("  %s -> %.*s", line, (int)length, (const char *)answer);
+    expect(length == 11 && memcmp(answer, "0 9200 2 0\n", 11) == 0, 1, "line");
+
+    puts("What is wrong is refused by number, and changes nothing.");
+    expect(depot_tick(book, DEPOT_BOOK_WORDS, 7, 0), DEPOT_BAD_DEPOT, "bad depot");
+    expect(depot_read(book, DEPOT_BOOK_WORDS - 1, MILL_CREW, BEARING, NULL, 0), DEPOT_BAD_BOOK, "short book");
+    expect(depot_read(NULL, 0, MILL_CREW, BEARING, NULL, 0), DEPOT_BAD_BOOK, "no book");
+    expect(depot_is_fit(book, DEPOT_BOOK_WORDS), 1, "fit");
+    puts("example: all as told");
+    return 0;
+}

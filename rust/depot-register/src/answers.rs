@@ -1,0 +1,118 @@
+//! What the calls answer.
+
+use std::error::Error;
+use std::fmt;
+
+/// Why a call was refused. A refused call changed no word of the book.
+#[derive(Clone, Copy, Debug, PartialEq, Eq, Hash)]
+pub enum Refusal {
+    /// The book is not fit.
+    BadBook = 1,
+    /// A depot or a home is not below the count of depots.
+    BadDepot = 2,
+    /// A shelf is not below the count of shelves.
+    BadShelf = 3,
+    /// A bearing is not below the count of bearings.
+    BadKey = 4,
+    /// A crew is not below the count of crews.
+    BadCrew = 5,
+    /// A take from the depot itself.
+    SameDepot = 6,
+    /// No untaken message stands on the link.
+    EmptyLink = 7,
+    /// The crew's home entry is above the shelf's clock: tick that shelf, then write again.
+    Wait = 8,
+    /// Some link out has no room: its far end has to take, and to show what it took.
+    LinkFull = 9,
+    /// The clock is 2,147,483,647 and cannot move on.
+    ClockAtEnd = 10,
+    /// A count is out of range, or the homes are not as many as the crews.
+    BadCounts = 11,
+}
+
+impl Refusal {
+    const ALL: [Refusal; 11] = [
+        Refusal::BadBook,
+        Refusal::BadDepot,
+        Refusal::BadShelf,
+        Refusal::BadKey,
+        Refusal::BadCrew,
+        Refusal::SameDepot,
+        Refusal::EmptyLink,
+        Refusal::Wait,
+        Refusal::LinkFull,
+        Refusal::ClockAtEnd,
+        Refusal::BadCounts,
+    ];
+
+    /// The refusal's number.
+    pub fn number(self) -> u32 {
+        self as u32
+    }
+
+    /// `Ok` for the number of "done", else the refusal.
+    pub(crate) fn check(number: u32) -> Result<(), Refusal> {
+        if number == 0 {
+            return Ok(());
+        }
+        let refusal = Refusal::ALL.iter().find(|refusal| refusal.number() == number);
+        Err(*refusal.unwrap_or_else(|| panic!("the library answered {}, which is no number of a call", number)))
+    }
+}
+
+impl fmt::Display for Refusal {
+    fn fmt(&self, f: &mut fmt::Formatter<'_>) -> fmt::Result {
+        f.write_str(match self {
+            Refusal::BadBook => "the book is not fit",
+            Refusal::BadDepot => "no such depot",
+            Refusal::BadShelf => "no such shelf",
+            Refusal::BadKey => "no such bearing",
+            Refusal::BadCrew => "no such crew",
+            Refusal::SameDepot => "a depot takes nothing from itself",
+            Refusal::EmptyLink => "no message is left to take",
+            Refusal::Wait => "the crew is ahead of the shelf's clock",
+            Refusal::LinkFull => "a link out has no room",
+            Refusal::ClockAtEnd => "the clock is at its end",
+            Refusal::BadCounts => "a count is out of range, or the homes are not as many as the crews",
+        })
+    }
+}
+
+impl Error for Refusal {}
+
+/// What a read found at the crew's home.
+#[derive(Clone, Copy, Debug, PartialEq, Eq, Hash)]
+pub enum Reading {
+    /// Nobody wrote the bearing, as far as this depot shows.
+    Unwritten,
+    /// The value, and the vector of its version: one entry a depot, 0 past the last.
+    Written { value: u32, vector: [u32; 4] },
+}
+
+impl Reading {
+    /// The value, if there is one.
+    pub fn value(self) -> Option<u32> {
+        match self {
+            Reading::Unwritten => None,
+            Reading::Written { value, .. } => Some(value),
+        }
+    }
+}
+
+/// What became of a write. Either way a copy goes to every other depot.
+#[derive(Clone, Copy, Debug, PartialEq, Eq, Hash)]
+pub enum Written {
+    /// It is now the version that the depot stores.
+    Current { stamp: u32 },
+    /// The depot stores a greater one, which stays.
+    Superseded { stamp: u32 },
+}
+
+impl Written {
+    /// The stamp of the write.
+    pub fn stamp(self) -> u32 {
+        match self {
+            Written::Current { stamp } | Written::Superseded { stamp } => stamp,
+        }
+    }
+}

@@ -1,0 +1,76 @@
+//! The static library's functions as they are, on slices and numbers. `include/depot_register.h` says what each does.
+//!
+//! They are safe for all slices and all numbers: the library reads and writes only inside the slices it is given, and
+//! answers a wrong length with a number. The rest of this crate is built on them, without `unsafe`.
+
+mod library {
+    extern "C" {
+        #[allow(clippy::too_many_arguments)]
+        pub fn depot_setup(
+            book: *mut u32,
+            words: usize,
+            depots: u32,
+            shelves: u32,
+            bearings: u32,
+            crews: u32,
+            homes: *const u32,
+            homes_count: usize,
+        ) -> u32;
+        pub fn depot_read(book: *mut u32, words: usize, crew: u32, bearing: u32, out: *mut u32, out_count: usize) -> u32;
+        pub fn depot_write(
+            book: *mut u32,
+            words: usize,
+            crew: u32,
+            bearing: u32,
+            value: u32,
+            out: *mut u32,
+            out_count: usize,
+        ) -> u32;
+        pub fn depot_tick(book: *mut u32, words: usize, depot: u32, shelf: u32) -> u32;
+        pub fn depot_take(book: *mut u32, words: usize, depot: u32, shelf: u32, from: u32) -> u32;
+        pub fn depot_refresh(book: *mut u32, words: usize, depot: u32, shelf: u32) -> u32;
+        pub fn depot_is_fit(book: *const u32, words: usize) -> u32;
+        pub fn depot_greater(a: *const u32, a_words: usize, b: *const u32, b_words: usize, depots: u32) -> u32;
+        pub fn depot_line(book: *mut u32, words: usize, line: *const u8, length: usize, out: *mut u8, out_length: usize)
+            -> usize;
+    }
+}
+
+// Each call below hands on pointers and lengths of slices it holds for the time of the call, so they are valid for reading,
+// those of `&mut` slices also for writing, and no `&mut` slice overlaps another.
+
+pub fn setup(book: &mut [u32], depots: u32, shelves: u32, bearings: u32, crews: u32, homes: &[u32]) -> u32 {
+    unsafe { library::depot_setup(book.as_mut_ptr(), book.len(), depots, shelves, bearings, crews, homes.as_ptr(), homes.len()) }
+}
+
+pub fn read(book: &mut [u32], crew: u32, bearing: u32, out: &mut [u32]) -> u32 {
+    unsafe { library::depot_read(book.as_mut_ptr(), book.len(), crew, bearing, out.as_mut_ptr(), out.len()) }
+}
+
+pub fn write(book: &mut [u32], crew: u32, bearing: u32, value: u32, out: &mut [u32]) -> u32 {
+    unsafe { library::depot_write(book.as_mut_ptr(), book.len(), crew, bearing, value, out.as_mut_ptr(), out.len()) }
+}
+
+pub fn tick(book: &mut [u32], depot: u32, shelf: u32) -> u32 {
+    unsafe { library::depot_tick(book.as_mut_ptr(), book.len(), depot, shelf) }
+}
+
+pub fn take(book: &mut [u32], depot: u32, shelf: u32, from: u32) -> u32 {
+    unsafe { library::depot_take(book.as_mut_ptr(), book.len(), depot, shelf, from) }
+}
+
+pub fn refresh(book: &mut [u32], depot: u32, shelf: u32) -> u32 {
+    unsafe { library::depot_refresh(book.as_mut_ptr(), book.len(), depot, shelf) }
+}
+
+pub fn is_fit(book: &[u32]) -> u32 {
+    unsafe { library::depot_is_fit(book.as_ptr(), book.len()) }
+}
+
+pub fn greater(a: &[u32], b: &[u32], depots: u32) -> u32 {
+    unsafe { library::depot_greater(a.as_ptr(), a.len(), b.as_ptr(), b.len(), depots) }
+}
+
+pub fn line(book: &mut [u32], line: &[u8], out: &mut [u8]) -> usize {
+    unsafe { library::depot_line(book.as_mut_ptr(), book.len(), line.as_ptr(), line.len(), out.as_mut_ptr(), out.len()) }
+}

@@ -1,0 +1,80 @@
+//! The specification's listing, by lines and by typed calls.
+
+use depot_register::{Bearing, Counts, Crew, Depot, Reading, Refusal, Register, Shelf, Written};
+
+const COUNTS: Counts = Counts { depots: 2, shelves: 2, bearings: 4, crews: 2 };
+const LINES: [&str; 12] = [
+    "S 2 2 4 2 0 1", "R 0 0", "W 0 0 20", "W 0 1 30", "K 0 1", "W 0 1 30", "T 1 0 0", "F 1 0", "R 1 0", "T 1 1 0", "F 1 0",
+    "R 1 0",
+];
+const ANSWERS: [&str; 12] = ["0", "0 - 0 0", "0 1 C", "8", "0", "0 2 C", "0", "0", "0 - 0 0", "0", "0", "0 20 1 0"];
+
+fn fresh() -> Register {
+    Register::setup(COUNTS, &[Depot(0), Depot(1)]).unwrap()
+}
+
+#[test]
+fn listing_by_lines_and_by_calls() {
+    let mut lines = fresh();
+    for (line, answer) in LINES.iter().zip(ANSWERS) {
+        assert_eq!(String::from_utf8(lines.line(line.as_bytes())).unwrap(), format!("{}\n", answer), "{}", line);
+    }
+
+    let mut calls = fresh();
+    assert_eq!(calls.read(Crew(0), Bearing(0)), Ok(Reading::Unwritten));
+    assert_eq!(calls.write(Crew(0), Bearing(0), 20), Ok(Written::Current { stamp: 1 }));
+    assert_eq!(calls.write(Crew(0), Bearing(1), 30), Err(Refusal::Wait));
+    assert_eq!(calls.tick(Depot(0), Shelf(1)), Ok(()));
+    assert_eq!(calls.write(Crew(0), Bearing(1), 30), Ok(Written::Current { stamp: 2 }));
+    assert_eq!(calls.take(Depot(1), Shelf(0), Depot(0)), Ok(()));
+    assert_eq!(calls.refresh(Depot(1), Shelf(0)), Ok(()));
+    assert_eq!(calls.read(Crew(1), Bearing(0)), Ok(Reading::Unwritten));
+    assert_eq!(calls.take(Depot(1), Shelf(1), Depot(0)), Ok(()));
+    assert_eq!(calls.refresh(Depot(1), Shelf(0)), Ok(()));
+    assert_eq!(calls.read(Crew(1), Bearing(0)), Ok(Reading::Written { value: 20, vector: [1, 0, 0, 0] }));
+    assert_eq!(lines, calls, "both ways lead to the same words");
+    assert_eq!(calls.counts(), COUNTS);
+}
+
+#[test]
+fn superseded() {
+    let mut register = fresh();
+    for line in &LINES[1..11] {
+        register.line(line.as_bytes());
+    }
+    assert_eq!(register.write(Crew(1), Bearing(0), 40), Ok(Written::Superseded { stamp: 1 }));
+    assert_eq!(register.read(Crew(1), Bearing(0)).unwrap().value(), Some(20));
+}
+
+#[test]
+fn refusals_have_their_numbers() {
+    let mut register = fresh();
+    let before = register.clone();
+    assert_eq!(register.read(Crew(2), Bearing(0)).unwrap_err().number(), 5);
+    assert_eq!(register.read(Crew(0), Bearing(4)).unwrap_err().number(), 4);
+    assert_eq!(register.tick(Depot(2), Shelf(0)).unwrap_err().number(), 2);
+    assert_eq!(register.refresh(Depot(0), Shelf(2)).unwrap_err().number(), 3);
+    assert_eq!(register.take(Depot(0), Shelf(0), Depot(0)).unwrap_err().number(), 6);
+    assert_eq!(register.take(Depot(0), Shelf(0), Depot(1)).unwrap_err().number(), 7);
+    assert_eq!(register, before);
+    for _ in 0..16 {
+        register.tick(Depot(0), Shelf(0)).unwrap();
+    }
+    assert_eq!(register.tick(Depot(0), Shelf(0)).unwrap_err().number(), 9);
+    let mut words = register.words().to_vec();
+    words[84 + 1] = 2_147_483_647;
+    let mut register = Register::from_words(words).unwrap();
+    assert_eq!(register.tick(Depot(0), Shelf(1)).unwrap_err().number(), 10);
+}
+
+#[test]
+fn raw_calls_answer_wrong_lengths() {
+    use depot_register::raw;
+    let mut out = [7; 6];
+    assert_eq!(raw::setup(&mut [0; 100], 1, 1, 1, 1, &[0]), 1);
+    assert_eq!(raw::read(&mut [], 0, 0, &mut out), 1);
+    assert_eq!(out, [7; 6], "a refusal leaves the answer's room alone");
+    assert_eq!(raw::is_fit(&[]), 0);
+    assert_eq!(raw::greater(&[], &[], 2), 0);
+    assert_eq!(raw::line(&mut [0; 16_384], b"R 0 0", &mut [0; 63]), 0, "too little room for a line's answer");
+}

@@ -1,0 +1,134 @@
+//! What is compared: the functions of `include/depot_register.h`.
+
+/// A register as the C header describes it. `out` is written as the header says, and only so.
+pub trait Register {
+    fn setup(&self, book: &mut [u32], counts: [u32; 4], homes: &[u32]) -> u32;
+    fn read(&self, book: &mut [u32], crew: u32, bearing: u32, out: &mut [u32]) -> u32;
+    fn write(&self, book: &mut [u32], crew: u32, bearing: u32, value: u32, out: &mut [u32]) -> u32;
+    fn tick(&self, book: &mut [u32], depot: u32, shelf: u32) -> u32;
+    fn take(&self, book: &mut [u32], depot: u32, shelf: u32, from: u32) -> u32;
+    fn refresh(&self, book: &mut [u32], depot: u32, shelf: u32) -> u32;
+    fn is_fit(&self, book: &[u32]) -> u32;
+    fn greater(&self, a: &[u32], b: &[u32], depots: u32) -> u32;
+    fn line(&self, book: &mut [u32], line: &[u8], out: &mut [u8]) -> usize;
+}
+
+/// The room that every answer line has.
+pub const ANSWER_BYTES: usize = 64;
+
+/// The straight version.
+pub struct Straight;
+
+/// The number of an answer without more in it.
+pub fn number(answer: Result<(), straight::Refusal>) -> u32 {
+    answer.map_or_else(|refusal| refusal as u32, |()| 0)
+}
+
+/// The number of a read's answer, and the rest of it in `out`.
+pub fn read_answer(answer: Result<straight::Reading, straight::Refusal>, out: &mut [u32]) -> u32 {
+    number(answer.map(|reading| {
+        if out.len() >= 6 {
+            out[0] = reading.value.is_some() as u32;
+            out[1] = reading.value.unwrap_or(0);
+            out[2..6].copy_from_slice(&reading.vector);
+        }
+    }))
+}
+
+/// The number of a write's answer, and the rest of it in `out`.
+pub fn write_answer(answer: Result<straight::Written, straight::Refusal>, out: &mut [u32]) -> u32 {
+    number(answer.map(|written| {
+        if out.len() >= 2 {
+            out[0] = written.stamp;
+            out[1] = written.current as u32;
+        }
+    }))
+}
+
+impl Register for Straight {
+    fn setup(&self, book: &mut [u32], counts: [u32; 4], homes: &[u32]) -> u32 {
+        let [depots, shelves, bearings, crews] = counts;
+        number(straight::setup(book, depots, shelves, bearings, crews, homes))
+    }
+
+    fn read(&self, book: &mut [u32], crew: u32, bearing: u32, out: &mut [u32]) -> u32 {
+        read_answer(straight::read(book, crew, bearing), out)
+    }
+
+    fn write(&self, book: &mut [u32], crew: u32, bearing: u32, value: u32, out: &mut [u32]) -> u32 {
+        write_answer(straight::write(book, crew, bearing, value), out)
+    }
+
+    fn tick(&self, book: &mut [u32], depot: u32, shelf: u32) -> u32 {
+        number(straight::tick(book, depot, shelf))
+    }
+
+    fn take(&self, book: &mut [u32], depot: u32, shelf: u32, from: u32) -> u32 {
+        number(straight::take(book, depot, shelf, from))
+    }
+
+    fn refresh(&self, book: &mut [u32], depot: u32, shelf: u32) -> u32 {
+        number(straight::refresh(book, depot, shelf))
+    }
+
+    fn is_fit(&self, book: &[u32]) -> u32 {
+        straight::is_fit(book) as u32
+    }
+
+    fn greater(&self, a: &[u32], b: &[u32], depots: u32) -> u32 {
+        straight::above(b, a, depots as usize) as u32
+    }
+
+    fn line(&self, book: &mut [u32], line: &[u8], out: &mut [u8]) -> usize {
+        if out.len() < ANSWER_BYTES {
+            return 0;
+        }
+        let answer = straight::line(book, line);
+        out[..answer.len()].copy_from_slice(answer.as_bytes());
+        answer.len()
+    }
+}
+
+/// The static library.
+#[cfg(feature = "library")]
+pub struct Library;
+
+#[cfg(feature = "library")]
+impl Register for Library {
+    fn setup(&self, book: &mut [u32], counts: [u32; 4], homes: &[u32]) -> u32 {
+        let [depots, shelves, bearings, crews] = counts;
+        depot_register::raw::setup(book, depots, shelves, bearings, crews, homes)
+    }
+
+    fn read(&self, book: &mut [u32], crew: u32, bearing: u32, out: &mut [u32]) -> u32 {
+        depot_register::raw::read(book, crew, bearing, out)
+    }
+
+    fn write(&self, book: &mut [u32], crew: u32, bearing: u32, value: u32, out: &mut [u32]) -> u32 {
+        depot_register::raw::write(book, crew, bearing, value, out)
+    }
+
+    fn tick(&self, book: &mut [u32], depot: u32, shelf: u32) -> u32 {
+        depot_register::raw::tick(book, depot, shelf)
+    }
+
+    fn take(&self, book: &mut [u32], depot: u32, shelf: u32, from: u32) -> u32 {
+        depot_register::raw::take(book, depot, shelf, from)
+    }
+
+    fn refresh(&self, book: &mut [u32], depot: u32, shelf: u32) -> u32 {
+        depot_register::raw::refresh(book, depot, shelf)
+    }
+
+    fn is_fit(&self, book: &[u32]) -> u32 {
+        depot_register::raw::is_fit(book)
+    }
+
+    fn greater(&self, a: &[u32], b: &[u32], depots: u32) -> u32 {
+        depot_register::raw::greater(a, b, depots)
+    }
+
+    fn line(&self, book: &mut [u32], line: &[u8], out: &mut [u8]) -> usize {
+        depot_register::raw::line(book, line, out)
+    }
+}

@@ -1,0 +1,301 @@
+//! The calls, each with the places where a mistake can be switched on.
+
+use super::{Slip, Slipped};
+use straight::layout::*;
+use straight::{Counts, Reading, Refusal, Written};
+
+type Answer<T> = Result<T, Refusal>;
+
+impl Slipped {
+    pub(super) fn call_setup(&self, book: &mut [u32], counts: [u32; 4], homes: &[u32]) -> Answer<()> {
+        let [depots, shelves, bearings, crews] = counts;
+        if self.has(Slip::SetupNeedsFit) && !self.fit(book) && book.iter().any(|&word| word != 0) {
+            return Err(Refusal::BadBook);
+        }
+        if self.has(Slip::SetupHomesFirst) && book.len() == WORDS && homes.iter().any(|&home| home >= depots) {
+            return Err(Refusal::BadDepot);
+        }
+        let old = book.to_vec();
+        straight::setup(book, depots, shelves, bearings, crews, homes)?;
+        if self.has(Slip::SetupKeepsOld) {
+            book[16_356..].copy_from_slice(&old[16_356..]);
+        }
+        Ok(())
+    }
+
+    pub(super) fn call_read(&self, book: &mut [u32], crew: u32, bearing: u32) -> Answer<Reading> {
+        let n = self.counts(book)?;
+        let (crew, bearing) = self.crew_and_bearing(book, n, crew, bearing)?;
+        let depot = book[home(crew)] as usize;
+        let record = stored(depot, bearing);
+        let early = vector(book, n, record + VECTOR);
+        let offered = vector(book, n, crew_vector(crew));
+        self.raise_and_show(book, n, depot, bearing % n.shelves, offered);
+
+        let vector = if self.has(Slip::ReadBeforeShow) { early } else { vector(book, n, record + VECTOR) };
+        if !self.has(Slip::CrewNotRaised) {
+            for x in 0..n.depots {
+                let entry = &mut book[crew_vector(crew) + x];
+                *entry = if self.has(Slip::CrewTakesAnswer) { vector[x] } else { vector[x].max(*entry) };
+            }
+        }
+        let value = book[record + VALUE];
+        let written = vector != [0; 4] && !(self.has(Slip::ZeroUnwritten) && value == 0);
+        Ok(Reading { value: if written { Some(value) } else { None }, vector })
+    }
+
+    pub(super) fn call_write(&self, book: &mut [u32], crew: u32, bearing: u32, value: u32) -> Answer<Written> {
+        let n = self.counts(book)?;
+        let (crew, bearing) = self.crew_and_bearing(book, n, crew, bearing)?;
+        let depot = book[home(crew)] as usize;
+        let shelf = bearing % n.shelves;
+        let mine = vector(book, n, crew_vector(crew));
+        let now = book[clock(depot, shelf)];
+        let waits = mine[depot] > now || (self.has(Slip::WaitAtEqual) && mine[depot] == now && now > 0);
+        if waits && !self.has(Slip::WaitAfterEnd) {
+            return Err(Refusal::Wait);
+        }
+        self.can_send(book, n, depot, shelf, !self.has(Slip::WriteFindsFull))?;
+        if waits {
+            return Err(Refusal::Wait);
+        }
+
+        self.raise_and_show(book, n, depot, shelf, mine);
+        let stamp = if self.has(Slip::StampAsItStands) { now.max(1) } else { now + 1 };
+        let mut version = [0; RECORD];
+        version[BEARING] = bearing as u32;
+        version[VALUE] = value;
+        version[ORIGIN] = depot as u32;
+        version[VECTOR..].copy_from_slice(&mine);
+        version[VECTOR + depot] = stamp;
+        if !self.has(Slip::CrewKeepsVector) {
+            book[crew_vector(crew)..][..n.depots].copy_from_slice(&version[VECTOR..][..n.depots]);
+        }
+        let place = &mut book[stored(depot, bearing)..][..RECORD];
+        let current = self.above(&version, place, n.depots) || self.has(Slip::LatestWriteKept);
+        if current {
+            place.copy_from_slice(&version);
+        }
+        let mut message = [0; SLOT];
+        message[0] = COPY;
+        message[1..].copy_from_slice(&version);
+        if current || !self.has(Slip::SupersededNotSent) {
+            self.send(book, n, depot, shelf, stamp, message)?;
+        } else {
+            book[clock(depot, shelf)] = stamp;
+        }
+        Ok(Written { stamp, current })
+    }
+
+    pub(super) fn call_tick(&self, book: &mut [u32], depot: u32, shelf: u32) -> Answer<()> {
+        let n = self.counts(book)?;
+        let depot = below(depot, n.depots, Refusal::BadDepot)?;
+        let shelf = below(shelf, n.shelves, Refusal::BadShelf)?;
+        self.can_send(book, n, depot, shelf, !self.has(Slip::TickFindsFull))?;
+        let stamp = book[clock(depot, shelf)] + 1;
+        let mut message = [0; SLOT];
+        message[0] = HEARTBEAT;
+        message[1] = stamp;
+        self.send(book, n, depot, shelf, stamp, message)
+    }
+
+    pub(super) fn call_take(&self, book: &mut [u32], depot: u32, shelf: u32, from: u32) -> Answer<()> {
+        let n = self.counts(book)?;
+        if self.has(Slip::TakeShelfFirst) {
+            below(shelf, n.shelves, Refusal::BadShelf)?;
+        }
+        let depot = below(depot, n.depots, Refusal::BadDepot)?;
+        if self.has(Slip::TakeFromLate) {
+            below(shelf, n.shelves, Refusal::BadShelf)?;
+        }
+        let from = below(from, n.depots, Refusal::BadDepot)?;
+        if self.has(Slip::TakeSameFirst) && depot == from {
+            return Err(Refusal::SameDepot);
+        }
+        let shelf = below(shelf, n.shelves, Refusal::BadShelf)?;
+        let link = link(shelf, from, depot);
+        if depot == from {
+            return Err(if self.has(Slip::TakeEmptyFirst) { Refusal::EmptyLink } else { Refusal::SameDepot });
+        }
+        let (held_now, taken_now) = (book[held(link)] as usize, book[taken(link)] as usize);
+        if taken_now >= held_now {
+            return Err(Refusal::EmptyLink);
+        }
+
+        let message = slot(link, taken_now);
+        let copy = book[message] == COPY;
+        let stamp = if copy { book[message + 1 + VECTOR + from] } else { book[message + 1] };
+        let there = &mut book[seen(depot, shelf, from)];
+        *there = if self.has(Slip::SeenMaximum) { stamp.max(*there) } else { stamp };
+        if copy && self.has(Slip::AppliedOnArrival) {
+            self.store(book, n, depot, message + 1);
+        }
+        if (copy && !self.has(Slip::AppliedOnArrival)) || (!copy && self.has(Slip::BeatStays)) {
+            book[taken(link)] += 1;
+        } else {
+            let end = slot(link, held_now);
+            book.copy_within(message + SLOT..end, message);
+            book[end - SLOT..end].fill(0);
+            book[held(link)] -= 1;
+        }
+        Ok(())
+    }
+
+    pub(super) fn call_refresh(&self, book: &mut [u32], depot: u32, shelf: u32) -> Answer<()> {
+        let n = self.counts(book)?;
+        let depot = below(depot, n.depots, Refusal::BadDepot)?;
+        let shelf = below(shelf, n.shelves, Refusal::BadShelf)?;
+        let mut lowest = [END; 4];
+        for from in (0..n.depots).filter(|&from| from != depot) {
+            for any in (0..n.shelves).filter(|&any| any == shelf || !self.has(Slip::OwnShelfOnly)) {
+                lowest[from] = lowest[from].min(book[seen(depot, any, from)]);
+                if self.has(Slip::OwnSeen) {
+                    lowest[from] = lowest[from].min(book[seen(depot, any, depot)]);
+                }
+            }
+            if self.has(Slip::RefreshLowers) {
+                book[stable(depot, shelf) + from] = lowest[from];
+            }
+        }
+        self.raise_and_show(book, n, depot, shelf, lowest);
+        Ok(())
+    }
+
+    fn counts(&self, book: &[u32]) -> Answer<Counts> {
+        if self.fit(book) {
+            Ok(Counts::of(book))
+        } else {
+            Err(Refusal::BadBook)
+        }
+    }
+
+    fn crew_and_bearing(&self, book: &[u32], n: Counts, crew: u32, bearing: u32) -> Answer<(usize, usize)> {
+        if self.has(Slip::HomeBeforeCrew) && book.get(4 + crew as usize).map_or(false, |&home| home as usize >= n.depots) {
+            return Err(Refusal::BadDepot);
+        }
+        if self.has(Slip::KeyFirst) {
+            below(bearing, n.bearings, Refusal::BadKey)?;
+        }
+        Ok((below(crew, n.crews, Refusal::BadCrew)?, below(bearing, n.bearings, Refusal::BadKey)?))
+    }
+
+    fn raise_and_show(&self, book: &mut [u32], n: Counts, depot: usize, shelf: usize, offered: [u32; 4]) {
+        if self.has(Slip::ShowBeforeRaise) {
+            self.show_all(book, n, depot, shelf);
+        }
+        for x in (0..n.depots).filter(|&x| x != depot || self.has(Slip::OwnRaised)) {
+            let entry = &mut book[stable(depot, shelf) + x];
+            *entry = offered[x].max(*entry);
+        }
+        if !self.has(Slip::ShowBeforeRaise) {
+            self.show_all(book, n, depot, shelf);
+        }
+    }
+
+    fn show_all(&self, book: &mut [u32], n: Counts, depot: usize, shelf: usize) {
+        for from in (0..n.depots).filter(|&from| from != depot) {
+            self.show(book, n, depot, shelf, link(shelf, from, depot));
+        }
+    }
+
+    fn show(&self, book: &mut [u32], n: Counts, depot: usize, shelf: usize, link: usize) {
+        let (held_now, taken_now) = (book[held(link)] as usize, book[taken(link)] as usize);
+        let (mut kept, mut kept_taken) = (0, 0);
+        let mut stopped = false;
+        for place in 0..held_now {
+            let message = slot(link, place);
+            let copy = place < taken_now || (self.has(Slip::UntakenShown) && book[message] == COPY);
+            let covered = copy
+                && (0..n.depots).all(|x| {
+                    let own = x == depot && !self.has(Slip::OwnEntryTested);
+                    own || book[message + 1 + VECTOR + x] <= book[stable(depot, shelf) + x]
+                });
+            stopped |= !covered && self.has(Slip::StopsAtHidden);
+            if covered && !stopped {
+                self.store(book, n, depot, message + 1);
+            }
+            if !covered || stopped || self.has(Slip::ShownStays) {
+                book.copy_within(message..message + SLOT, slot(link, kept));
+                kept += 1;
+                if place < taken_now {
+                    kept_taken += 1;
+                }
+            }
+        }
+        if !self.has(Slip::FreedKept) {
+            book[slot(link, kept)..slot(link, held_now)].fill(0);
+        }
+        book[held(link)] = kept as u32;
+        book[taken(link)] = kept_taken;
+    }
+
+    /// A record goes to the depot's store if it is greater.
+    fn store(&self, book: &mut [u32], n: Counts, depot: usize, record: usize) {
+        let there = stored(depot, book[record + BEARING] as usize);
+        let greater = self.above(&book[record..][..RECORD], &book[there..][..RECORD], n.depots);
+        if greater || self.has(Slip::LatestCopyKept) {
+            book.copy_within(record..record + RECORD, there);
+            if self.has(Slip::SpareCleared) {
+                book[there + 2..there + 4].fill(0);
+            }
+        }
+    }
+
+    pub(super) fn above(&self, a: &[u32], b: &[u32], depots: usize) -> bool {
+        let depots = if self.has(Slip::PastDepots) { 4 } else { depots };
+        let (left, right) = (&a[VECTOR..VECTOR + depots], &b[VECTOR..VECTOR + depots]);
+        let unwritten = left.iter().all(|&entry| entry == 0) && !self.has(Slip::UnwrittenOrigin);
+        let higher = match self.0 {
+            Slip::NoOrigin => false,
+            Slip::EqualReplaces => a[ORIGIN] >= b[ORIGIN],
+            _ => a[ORIGIN] > b[ORIGIN],
+        };
+        left > right || (left == right && !unwritten && higher)
+    }
+
+    fn can_send(&self, book: &[u32], n: Counts, depot: usize, shelf: usize, room: bool) -> Answer<()> {
+        let at_end = book[clock(depot, shelf)] == END;
+        if at_end && !self.has(Slip::FullBeforeEnd) {
+            return Err(Refusal::ClockAtEnd);
+        }
+        let full = |link: usize| {
+            let taken = if self.has(Slip::TakenNoRoom) { book[taken(link)] } else { 0 };
+            book[held(link)] - taken >= ROOM
+        };
+        if room && (0..n.depots).any(|to| to != depot && full(link(shelf, depot, to))) {
+            return Err(Refusal::LinkFull);
+        }
+        if at_end {
+            return Err(Refusal::ClockAtEnd);
+        }
+        Ok(())
+    }
+
+    fn send(&self, book: &mut [u32], n: Counts, depot: usize, shelf: usize, stamp: u32, message: [u32; SLOT]) -> Answer<()> {
+        book[clock(depot, shelf)] = stamp;
+        for to in (0..n.depots).filter(|&to| to != depot) {
+            let link = link(shelf, depot, to);
+            if book[held(link)] == ROOM && !self.has(Slip::TakenNoRoom) {
+                return Err(Refusal::LinkFull);
+            }
+            let free = slot(link, book[held(link)] as usize);
+            book[free..free + SLOT].copy_from_slice(&message);
+            book[held(link)] += 1;
+        }
+        Ok(())
+    }
+}
+
+fn below(number: u32, count: usize, refusal: Refusal) -> Answer<usize> {
+    if (number as usize) < count {
+        Ok(number as usize)
+    } else {
+        Err(refusal)
+    }
+}
+
+fn vector(book: &[u32], n: Counts, at: usize) -> [u32; 4] {
+    let mut entries = [0; 4];
+    entries[..n.depots].copy_from_slice(&book[at..at + n.depots]);
+    entries
+}

@@ -1,0 +1,86 @@
+//! The desk's lines, with the places where a mistake can be switched on.
+
+use super::{Slip, Slipped};
+use crate::register::{read_answer, write_answer, Register};
+
+/// A desk that forgets a last line without its line feed.
+pub fn desk(input: &[u8]) -> Vec<u8> {
+    let whole = input.iter().rposition(|&byte| byte == b'\n').map_or(0, |at| at + 1);
+    straight::desk(&input[..whole])
+}
+
+impl Slipped {
+    pub(super) fn answer_line(&self, book: &mut [u32], text: &[u8]) -> String {
+        let mut text = text;
+        if self.has(Slip::LineEmpty) && text.is_empty() {
+            return String::new();
+        }
+        if self.has(Slip::LineReturn) {
+            text = text.strip_suffix(b"\r").unwrap_or(text);
+        }
+        if self.has(Slip::LineSpace) {
+            text = text.strip_suffix(b" ").unwrap_or(text);
+        }
+        let (event, numbers) = match self.parts(text) {
+            Some(parts) => parts,
+            None => return "13\n".to_string(),
+        };
+        let depots = |book: &[u32]| book[0] as usize;
+        let mut out = [0; 6];
+        let more = self.has(Slip::LineMore);
+        let number = match (event, &numbers[..]) {
+            (b'S', [a, b, c, d, homes @ ..]) if homes.len() <= 16 || (self.has(Slip::LineTwentyOne) && homes.len() == 17) => {
+                self.setup(book, [*a, *b, *c, *d], homes)
+            }
+            (b'S', [a, b, c]) if self.has(Slip::LineThree) => self.setup(book, [*a, *b, *c, 0], &[]),
+            (b'R', [crew, bearing, rest @ ..]) if rest.is_empty() || more => {
+                match read_answer(self.call_read(book, *crew, *bearing), &mut out) {
+                    0 => {
+                        let value = if out[0] == 1 { out[1].to_string() } else { "-".to_string() };
+                        return out[2..2 + depots(book)]
+                            .iter()
+                            .fold(format!("0 {}", value), |text, entry| format!("{} {}", text, entry))
+                            + "\n";
+                    }
+                    number => number,
+                }
+            }
+            (b'W', [crew, bearing, value, rest @ ..]) if rest.is_empty() || more => {
+                match write_answer(self.call_write(book, *crew, *bearing, *value), &mut out) {
+                    0 => return format!("0 {} {}\n", out[0], if out[1] == 1 { "C" } else { "S" }),
+                    number => number,
+                }
+            }
+            (b'K', [depot, shelf, rest @ ..]) if rest.is_empty() || more => self.tick(book, *depot, *shelf),
+            (b'T', [depot, shelf, from, rest @ ..]) if rest.is_empty() || more => self.take(book, *depot, *shelf, *from),
+            (b'F', [depot, shelf, rest @ ..]) if rest.is_empty() || more => self.refresh(book, *depot, *shelf),
+            _ => 13,
+        };
+        format!("{}\n", number)
+    }
+
+    fn parts(&self, text: &[u8]) -> Option<(u8, Vec<u32>)> {
+        let longest = match self.0 {
+            Slip::Line119 => 119,
+            Slip::Line121 => 121,
+            _ => 120,
+        };
+        let mut words = text.split(|&byte| byte == b' ');
+        match words.next() {
+            Some(&[event]) if text.len() <= longest => Some((event, words.map(|word| self.digits(word)).collect::<Option<_>>()?)),
+            _ => None,
+        }
+    }
+
+    fn digits(&self, digits: &[u8]) -> Option<u32> {
+        let spare = digits.len() > 1 && digits[0] == b'0' && !self.has(Slip::LineZeros);
+        if digits.is_empty() || digits.len() > 10 || spare || !digits.iter().all(u8::is_ascii_digit) {
+            return None;
+        }
+        let value = digits.iter().fold(0u64, |value, digit| 10 * value + u64::from(digit - b'0'));
+        if value > u64::from(u32::MAX) && !self.has(Slip::LineWraps) {
+            return None;
+        }
+        Some(value as u32)
+    }
+}

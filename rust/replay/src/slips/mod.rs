@@ -1,0 +1,210 @@
+//! Registers with one mistake each: the slips that the specification expects, and others that are easy to make. Each is the
+//! straight version again with the mistake switched on. A test shows that a replay finds every one of them.
+
+mod calls;
+mod fit;
+mod lines;
+
+use crate::register::{number, read_answer, write_answer, Register};
+pub use lines::desk;
+
+macro_rules! slips {
+    ($($(#[doc = $doc:literal])* $name:ident,)*) => {
+        /// One mistake.
+        #[derive(Clone, Copy, Debug, PartialEq, Eq)]
+        pub enum Slip {
+            /// No mistake: it has to agree with the straight version for ever.
+            None,
+            $($(#[doc = $doc])* $name,)*
+        }
+
+        /// Every mistake.
+        pub const SLIPS: &[Slip] = &[$(Slip::$name),*];
+    };
+}
+
+slips! {
+    /// A copy is applied on arrival.
+    AppliedOnArrival,
+    /// A shown copy is stored even if it is not greater.
+    LatestCopyKept,
+    /// A write is stored even if it is not greater.
+    LatestWriteKept,
+    /// A tick sends until it finds a full link.
+    TickFindsFull,
+    /// A write sends until it finds a full link.
+    WriteFindsFull,
+    /// Taken copies hold no room.
+    TakenNoRoom,
+    /// Shown copies stay on the link.
+    ShownStays,
+    /// A write waits at an equal clock too.
+    WaitAtEqual,
+    /// A refresh lowers stable entries.
+    RefreshLowers,
+    /// The own stable entry is raised.
+    OwnRaised,
+    /// The order compares words past the depots.
+    PastDepots,
+    /// The own stamp seen enters the minimum.
+    OwnSeen,
+    /// A crew's home is looked at before the crew's number is checked.
+    HomeBeforeCrew,
+    /// A setup is refused on a book that is not fit.
+    SetupNeedsFit,
+    /// Take: the shelf is checked before the depots.
+    TakeShelfFirst,
+    /// Take: the sender is checked after the shelf.
+    TakeFromLate,
+    /// Take: the same depot is noticed before a bad shelf.
+    TakeSameFirst,
+    /// Take: the same depot is an empty link.
+    TakeEmptyFirst,
+    /// Setup: a bad home is noticed before bad counts.
+    SetupHomesFirst,
+    /// Setup: the old words stay where they are not used.
+    SetupKeepsOld,
+    /// Read and write: the bearing is checked before the crew.
+    KeyFirst,
+    /// A read answers from the store as it was before showing.
+    ReadBeforeShow,
+    /// A read sets the crew's vector to the answer's.
+    CrewTakesAnswer,
+    /// A read leaves the crew's vector alone.
+    CrewNotRaised,
+    /// A bearing with value 0 counts as unwritten.
+    ZeroUnwritten,
+    /// WAIT is noticed after the clock's end.
+    WaitAfterEnd,
+    /// A full link is noticed before the clock's end.
+    FullBeforeEnd,
+    /// A write is stamped with the clock as it stands.
+    StampAsItStands,
+    /// A superseded write is not sent.
+    SupersededNotSent,
+    /// A write leaves the crew's vector alone.
+    CrewKeepsVector,
+    /// A take keeps the larger stamp seen.
+    SeenMaximum,
+    /// A taken heartbeat stays on its link.
+    BeatStays,
+    /// A refresh looks at its own shelf only.
+    OwnShelfOnly,
+    /// Showing stops at the first copy that is not covered.
+    StopsAtHidden,
+    /// Freed slots keep their words.
+    FreedKept,
+    /// The depot's own entry is tested when a copy is covered.
+    OwnEntryTested,
+    /// Untaken copies are shown too.
+    UntakenShown,
+    /// Versions are shown before the stable vector is raised.
+    ShowBeforeRaise,
+    /// Equal vectors are a draw.
+    NoOrigin,
+    /// An equal version replaces the stored one.
+    EqualReplaces,
+    /// Unwritten records are told apart by their origin.
+    UnwrittenOrigin,
+    /// The spare words of a copy are written as 0 when it is stored.
+    SpareCleared,
+    /// Fit: an entry of 2,147,483,648 passes.
+    FitPastEnd,
+    /// Fit: an entry of 2,147,483,647 does not pass.
+    FitBelowEnd,
+    /// Fit: a link of 17 passes.
+    FitSeventeen,
+    /// Fit: a taken heartbeat passes.
+    FitTakenBeat,
+    /// Fit: a version with stamp 0 passes.
+    FitNoStamp,
+    /// Fit: the own stable entry is not looked at.
+    FitOwnStable,
+    /// Fit: the own stamp seen is looked at.
+    FitOwnSeen,
+    /// Fit: the homes past the crews are looked at.
+    FitAllHomes,
+    /// Fit: a copy's bearing may lie on another shelf.
+    FitAnyShelf,
+    /// Fit: a copy's origin may be another depot.
+    FitAnyOrigin,
+    /// Fit: the bearing of an unwritten record is looked at.
+    FitUnwritten,
+    /// Fit: a link of a depot to itself is looked at.
+    FitDiagonal,
+    /// A line of 121 bytes passes.
+    Line121,
+    /// A line of 120 bytes is too long.
+    Line119,
+    /// S with 3 numbers passes: no crews.
+    LineThree,
+    /// S with 21 numbers is BAD COUNTS.
+    LineTwentyOne,
+    /// 4294967296 wraps to 0.
+    LineWraps,
+    /// A carriage return at the end is dropped.
+    LineReturn,
+    /// An empty line has no answer.
+    LineEmpty,
+    /// A spare leading zero passes.
+    LineZeros,
+    /// A space at the end passes.
+    LineSpace,
+    /// More numbers than the event has pass.
+    LineMore,
+}
+
+/// The straight version with a mistake.
+pub struct Slipped(pub Slip);
+
+impl Slipped {
+    fn has(&self, slip: Slip) -> bool {
+        self.0 == slip
+    }
+}
+
+impl Register for Slipped {
+    fn setup(&self, book: &mut [u32], counts: [u32; 4], homes: &[u32]) -> u32 {
+        number(self.call_setup(book, counts, homes))
+    }
+
+    fn read(&self, book: &mut [u32], crew: u32, bearing: u32, out: &mut [u32]) -> u32 {
+        read_answer(self.call_read(book, crew, bearing), out)
+    }
+
+    fn write(&self, book: &mut [u32], crew: u32, bearing: u32, value: u32, out: &mut [u32]) -> u32 {
+        write_answer(self.call_write(book, crew, bearing, value), out)
+    }
+
+    fn tick(&self, book: &mut [u32], depot: u32, shelf: u32) -> u32 {
+        number(self.call_tick(book, depot, shelf))
+    }
+
+    fn take(&self, book: &mut [u32], depot: u32, shelf: u32, from: u32) -> u32 {
+        number(self.call_take(book, depot, shelf, from))
+    }
+
+    fn refresh(&self, book: &mut [u32], depot: u32, shelf: u32) -> u32 {
+        number(self.call_refresh(book, depot, shelf))
+    }
+
+    fn is_fit(&self, book: &[u32]) -> u32 {
+        self.fit(book) as u32
+    }
+
+    fn greater(&self, a: &[u32], b: &[u32], depots: u32) -> u32 {
+        if a.len() != 9 || b.len() != 9 || !(1..=4).contains(&depots) {
+            return straight::above(b, a, depots as usize) as u32;
+        }
+        self.above(b, a, depots as usize) as u32
+    }
+
+    fn line(&self, book: &mut [u32], line: &[u8], out: &mut [u8]) -> usize {
+        if out.len() < crate::register::ANSWER_BYTES {
+            return 0;
+        }
+        let answer = self.answer_line(book, line);
+        out[..answer.len()].copy_from_slice(answer.as_bytes());
+        answer.len()
+    }
+}

@@ -1,0 +1,292 @@
+//! Counts what the lists reached, so that a reader sees that nothing is vacuous.
+
+use std::fmt;
+
+use crate::event::{Event, Outcome, Step};
+use straight::layout::*;
+use straight::Counts;
+
+const CALLS: [&str; 7] = ["setup", "read", "write", "tick", "take", "refresh", "line"];
+const NAMES: [&str; 14] = [
+    "done", "BAD BOOK", "BAD DEPOT", "BAD SHELF", "BAD KEY", "BAD CREW", "SAME DEPOT", "EMPTY LINK", "WAIT", "LINK FULL",
+    "CLOCK AT END", "BAD COUNTS", "", "BAD LINE",
+];
+
+macro_rules! marks {
+    ($($name:ident: $text:literal,)*) => {
+        /// The states and turns worth reaching.
+        #[derive(Clone, Copy, Debug, PartialEq, Eq)]
+        pub enum Mark { $($name),* }
+
+        /// All of them, with their words in the table.
+        pub const MARKS: &[(Mark, &str)] = &[$((Mark::$name, $text)),*];
+    };
+}
+
+marks! {
+    OneDepot: "a call on a book of one depot",
+    TwoDepots: "a call on a book of two depots",
+    ThreeDepots: "a call on a book of three depots",
+    FourDepots: "a call on a book of four depots",
+    MostOfAll: "a call on a book of 4 shelves, 64 bearings or 16 crews",
+    Unwritten: "a read of an unwritten bearing",
+    CrewRaised: "a read that raises its crew's vector",
+    StableRaised: "a call that raises a stable entry",
+    NotLowered: "a refresh that offers less than a stable entry has",
+    Stored: "a copy shown and stored",
+    Dropped: "a copy shown and not greater",
+    Tied: "a copy shown against an equal vector",
+    Middle: "a covered copy shown from behind one that stays",
+    Behind: "untaken messages that move down as copies are shown",
+    Hidden: "a taken copy that stays hidden through a call",
+    Superseded: "a write superseded",
+    Equal: "a write with the home entry equal to the clock",
+    Below: "a write with the home entry below the clock",
+    FullByTaken: "LINK FULL only because taken copies hold room",
+    FullLater: "LINK FULL at a later link, an earlier one has room",
+    Several: "a refused write or tick with two reasons or more",
+    RoomAgain: "a send into the last room of a link that has given room back",
+    ToEnd: "a clock that reaches 2,147,483,647",
+    BeatBehind: "a heartbeat taken from behind taken copies",
+    BeatBefore: "a heartbeat taken with messages behind it",
+    SeenFalls: "a take that lowers the stamp seen",
+    Laid: "a fit book laid out at random",
+    Unfit: "a word changed, and the book is not fit",
+    StillFit: "a word changed, and the book is still fit",
+    WrongLength: "a call on a book of the wrong length",
+    LittleRoom: "an answer with too little room",
+    SecondGreater: "two records, the second greater",
+    FirstKept: "two records, the first kept",
+    Line120: "a line of 120 bytes",
+    Line121: "a line of 121 bytes",
+    LineEmpty: "an empty line",
+    LineReturn: "a line that ends in a carriage return",
+    LineBig: "a line with 4294967296",
+    LineFew: "an S line with 3 numbers",
+    LineMany: "an S line with 21 numbers",
+}
+
+pub struct Tally {
+    /// All steps but damaged lines.
+    pub events: u64,
+    /// Lines that are BAD LINE.
+    pub bad_lines: u64,
+    answers: [[u64; 14]; 7],
+    marks: Vec<u64>,
+}
+
+impl Default for Tally {
+    fn default() -> Tally {
+        Tally { events: 0, bad_lines: 0, answers: [[0; 14]; 7], marks: vec![0; MARKS.len()] }
+    }
+}
+
+impl Tally {
+    /// How often a mark was reached.
+    pub fn of(&self, mark: Mark) -> u64 {
+        self.marks[mark as usize]
+    }
+
+    /// How often a call of the table's row had an answer.
+    pub fn answered(&self, call: &str, number: usize) -> u64 {
+        CALLS.iter().position(|&name| name == call).map_or(0, |row| self.answers[row][number])
+    }
+
+    fn mark(&mut self, mark: Mark) {
+        self.marks[mark as usize] += 1;
+    }
+
+    fn mark_if(&mut self, when: bool, mark: Mark) {
+        if when {
+            self.mark(mark);
+        }
+    }
+
+    /// Counts a step, by the buffer before and after it.
+    pub fn count(&mut self, step: &Step, before: &[u32], after: &[u32], outcome: &Outcome) {
+        let done = self.answer(step, outcome);
+        let called = !matches!(step.event, Event::Lay(_) | Event::Put { .. } | Event::Greater { .. });
+        self.mark_if(called && step.words != WORDS, Mark::WrongLength);
+        let least = match step.event {
+            Event::Line(_) => 64,
+            Event::Read { .. } => 6,
+            Event::Write { .. } => 2,
+            _ => 0,
+        };
+        self.mark_if(step.room < least, Mark::LittleRoom);
+        if done && called && step.words == WORDS {
+            self.book(&before[..WORDS]);
+        }
+        let n = Counts::of(before);
+        match &step.event {
+            Event::Lay(_) => self.mark_if(outcome.number == 1, Mark::Laid),
+            Event::Put { .. } => self.mark(if outcome.number == 1 { Mark::StillFit } else { Mark::Unfit }),
+            Event::Greater { .. } => self.mark(if outcome.number == 1 { Mark::SecondGreater } else { Mark::FirstKept }),
+            Event::Line(text) => self.line(text),
+            Event::Read { crew, bearing } if done => {
+                let (crew, bearing) = (*crew as usize, *bearing as usize);
+                let depot = before[home(crew)] as usize;
+                let raised = crew_vector(crew)..crew_vector(crew) + n.depots;
+                self.mark_if(before[raised.clone()] != after[raised], Mark::CrewRaised);
+                let record = stored(depot, bearing) + VECTOR;
+                self.mark_if(after[record..record + n.depots].iter().all(|&entry| entry == 0), Mark::Unwritten);
+                self.shelf(n, before, after, depot, bearing % n.shelves);
+            }
+            Event::Write { crew, bearing, .. } if done => {
+                let (crew, bearing) = (*crew as usize, *bearing as usize);
+                let depot = before[home(crew)] as usize;
+                let shelf = bearing % n.shelves;
+                let (mine, clock) = (before[crew_vector(crew) + depot], before[clock(depot, shelf)]);
+                self.mark(if mine == clock { Mark::Equal } else { Mark::Below });
+                let record = stored(depot, bearing);
+                let current = after[record + ORIGIN] == depot as u32 && after[record + VECTOR + depot] == clock + 1;
+                self.mark_if(!current, Mark::Superseded);
+                self.sent(n, before, after, depot, shelf);
+                self.shelf(n, before, after, depot, shelf);
+            }
+            Event::Tick { depot, shelf } if done => self.sent(n, before, after, *depot as usize, *shelf as usize),
+            Event::Write { crew, bearing, .. } if outcome.number >= 8 => {
+                let depot = before[home(*crew as usize)] as usize;
+                let waits = before[crew_vector(*crew as usize) + depot] > before[clock(depot, *bearing as usize % n.shelves)];
+                self.not_sent(n, before, depot, *bearing as usize % n.shelves, waits, outcome.number);
+            }
+            Event::Tick { depot, shelf } if outcome.number >= 8 => {
+                self.not_sent(n, before, *depot as usize, *shelf as usize, false, outcome.number);
+            }
+            Event::Take { depot, shelf, from } if done => {
+                let (depot, shelf, from) = (*depot as usize, *shelf as usize, *from as usize);
+                let link = link(shelf, from, depot);
+                let beat = before[held(link)] != after[held(link)];
+                self.mark_if(beat && before[taken(link)] > 0, Mark::BeatBehind);
+                self.mark_if(beat && before[taken(link)] + 1 < before[held(link)], Mark::BeatBefore);
+                let seen = seen(depot, shelf, from);
+                self.mark_if(after[seen] < before[seen], Mark::SeenFalls);
+            }
+            Event::Refresh { depot, shelf } if done => {
+                let (depot, shelf) = (*depot as usize, *shelf as usize);
+                let lowest = |x| (0..n.shelves).map(|any| before[seen(depot, any, x)]).min().unwrap_or(0);
+                let less = (0..n.depots).any(|x| x != depot && lowest(x) < before[stable(depot, shelf) + x]);
+                self.mark_if(less, Mark::NotLowered);
+                self.shelf(n, before, after, depot, shelf);
+            }
+            _ => {}
+        }
+    }
+
+    /// Counts the answer; says whether a call was done.
+    fn answer(&mut self, step: &Step, outcome: &Outcome) -> bool {
+        let row = match step.event {
+            Event::Setup { .. } => 0,
+            Event::Read { .. } => 1,
+            Event::Write { .. } => 2,
+            Event::Tick { .. } => 3,
+            Event::Take { .. } => 4,
+            Event::Refresh { .. } => 5,
+            Event::Line(_) => 6,
+            _ => {
+                self.events += 1;
+                return false;
+            }
+        };
+        let number = if row < 6 {
+            outcome.number
+        } else {
+            let first = outcome.bytes[..outcome.number].split(|byte| b" \n".contains(byte)).next().unwrap_or(b"");
+            match std::str::from_utf8(first).ok().and_then(|text| text.parse().ok()) {
+                Some(number) => number,
+                None => return false,
+            }
+        };
+        self.answers[row][number] += 1;
+        if number == 13 {
+            self.bad_lines += 1;
+        } else {
+            self.events += 1;
+        }
+        number == 0 && row < 6
+    }
+
+    /// What kind of book a call was done on.
+    fn book(&mut self, book: &[u32]) {
+        if let Some(mark) =
+            [Mark::OneDepot, Mark::TwoDepots, Mark::ThreeDepots, Mark::FourDepots].get((book[0] as usize).wrapping_sub(1))
+        {
+            self.mark(*mark);
+            self.mark_if(book[1] == MOST_SHELVES || book[2] == MOST_BEARINGS || book[3] == MOST_CREWS, Mark::MostOfAll);
+        }
+    }
+
+    /// What raising and showing did at a shelf.
+    fn shelf(&mut self, n: Counts, before: &[u32], after: &[u32], depot: usize, shelf: usize) {
+        let vector = stable(depot, shelf)..stable(depot, shelf) + n.depots;
+        self.mark_if(before[vector.clone()] != after[vector], Mark::StableRaised);
+        for from in (0..n.depots).filter(|&from| from != depot) {
+            let link = link(shelf, from, depot);
+            let mut stays = false;
+            for place in 0..before[taken(link)] as usize {
+                let copy = slot(link, place) + 1;
+                let covered = (0..n.depots).all(|x| x == depot || before[copy + VECTOR + x] <= after[stable(depot, shelf) + x]);
+                if !covered {
+                    stays = true;
+                    self.mark(Mark::Hidden);
+                    continue;
+                }
+                self.mark_if(stays, Mark::Middle);
+                let there = stored(depot, before[copy + BEARING] as usize);
+                let same = |a: usize, b: &[u32], length: usize| before[copy + a..][..length] == b[there + a..][..length];
+                self.mark(if same(0, after, RECORD) { Mark::Stored } else { Mark::Dropped });
+                self.mark_if(same(VECTOR, before, n.depots) && !same(ORIGIN, before, 1), Mark::Tied);
+            }
+            let untaken = before[held(link)] > before[taken(link)];
+            self.mark_if(untaken && after[held(link)] < before[held(link)], Mark::Behind);
+        }
+    }
+
+    /// What a write or a tick that was done did to its links.
+    fn sent(&mut self, n: Counts, before: &[u32], after: &[u32], depot: usize, shelf: usize) {
+        self.mark_if(after[clock(depot, shelf)] == END, Mark::ToEnd);
+        let full = |to: usize| to != depot && after[held(link(shelf, depot, to))] == ROOM;
+        let old = before[clock(depot, shelf)] >= ROOM;
+        self.mark_if(old && (0..n.depots).any(full), Mark::RoomAgain);
+    }
+
+    /// Why a write or a tick could not send.
+    fn not_sent(&mut self, n: Counts, book: &[u32], depot: usize, shelf: usize, waits: bool, number: usize) {
+        let links = || (0..n.depots).filter(|&to| to != depot).map(|to| link(shelf, depot, to));
+        let full = |link: usize| book[held(link)] == ROOM;
+        let reasons = waits as u32 + (book[clock(depot, shelf)] == END) as u32 + links().any(full) as u32;
+        self.mark_if(reasons > 1, Mark::Several);
+        if number == straight::Refusal::LinkFull as usize {
+            self.mark_if(links().filter(|&link| full(link)).all(|link| book[taken(link)] > 0), Mark::FullByTaken);
+            self.mark_if(links().next().map_or(false, |link| !full(link)), Mark::FullLater);
+        }
+    }
+
+    fn line(&mut self, text: &[u8]) {
+        let numbers = text.iter().filter(|&&byte| byte == b' ').count();
+        self.mark_if(text.len() == 120, Mark::Line120);
+        self.mark_if(text.len() == 121, Mark::Line121);
+        self.mark_if(text.is_empty(), Mark::LineEmpty);
+        self.mark_if(text.ends_with(b"\r"), Mark::LineReturn);
+        self.mark_if(text.ends_with(b" 4294967296"), Mark::LineBig);
+        self.mark_if(text.starts_with(b"S ") && numbers == 3, Mark::LineFew);
+        self.mark_if(text.starts_with(b"S ") && numbers == 21, Mark::LineMany);
+    }
+}
+
+impl fmt::Display for Tally {
+    fn fmt(&self, f: &mut fmt::Formatter<'_>) -> fmt::Result {
+        write!(f, "{:<16}", "answers")?;
+        CALLS.iter().try_for_each(|call| write!(f, "{:>9}", call))?;
+        writeln!(f)?;
+        for (number, name) in NAMES.iter().enumerate().filter(|(_, name)| !name.is_empty()) {
+            write!(f, "{:>2} {:<13}", number, name)?;
+            self.answers.iter().try_for_each(|row| match row[number] {
+                0 => write!(f, "{:>9}", "-"),
+                count => write!(f, "{:>9}", count),
+            })?;
+            writeln!(f)?;
+        }
+        MARKS.iter().try_for_each(|(mark, text)| writeln!(f, "{:>9}  {}", self.of(*mark), text))
+    }
+}

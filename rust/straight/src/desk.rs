@@ -1,0 +1,74 @@
+//! The desk: a line in, a line out.
+
+use crate::layout::{Counts, WORDS};
+use crate::{calls, Refusal};
+
+/// The bytes a line may have, its line feed not counted.
+pub const LONGEST_LINE: usize = 120;
+
+/// All of the desk's output for all of its input. The book starts as zeros; a last line without its line feed counts if
+/// it is not empty.
+pub fn desk(input: &[u8]) -> Vec<u8> {
+    let mut book = vec![0; WORDS];
+    let mut output = Vec::new();
+    let mut lines: Vec<&[u8]> = input.split(|&byte| byte == b'\n').collect();
+    if lines.last() == Some(&&b""[..]) {
+        lines.pop();
+    }
+    for text in lines {
+        output.extend_from_slice(line(&mut book, text).as_bytes());
+    }
+    output
+}
+
+/// The answer to one line, given without its line feed; the answer has one.
+pub fn line(book: &mut [u32], text: &[u8]) -> String {
+    match call(book, text) {
+        Ok(more) => format!("0{}\n", more),
+        Err(refusal) => format!("{}\n", refusal as u32),
+    }
+}
+
+/// Does what a line asks. What comes back is the text after the answer's 0.
+fn call(book: &mut [u32], text: &[u8]) -> Result<String, Refusal> {
+    let (event, numbers) = parts(text).ok_or(Refusal::BadLine)?;
+    let nothing = String::new();
+    match (event, &numbers[..]) {
+        (b'S', [depots, shelves, bearings, crews, homes @ ..]) if homes.len() <= 16 => {
+            calls::setup(book, *depots, *shelves, *bearings, *crews, homes).map(|()| nothing)
+        }
+        (b'R', [crew, bearing]) => calls::read(book, *crew, *bearing).map(|reading| {
+            let value = reading.value.map_or("-".to_string(), |value| value.to_string());
+            let entries = &reading.vector[..Counts::of(book).depots];
+            entries.iter().fold(format!(" {}", value), |text, entry| format!("{} {}", text, entry))
+        }),
+        (b'W', [crew, bearing, value]) => calls::write(book, *crew, *bearing, *value)
+            .map(|written| format!(" {} {}", written.stamp, if written.current { "C" } else { "S" })),
+        (b'K', [depot, shelf]) => calls::tick(book, *depot, *shelf).map(|()| nothing),
+        (b'T', [depot, shelf, from]) => calls::take(book, *depot, *shelf, *from).map(|()| nothing),
+        (b'F', [depot, shelf]) => calls::refresh(book, *depot, *shelf).map(|()| nothing),
+        _ => Err(Refusal::BadLine),
+    }
+}
+
+/// The first byte of a line and its numbers, each after one space.
+fn parts(text: &[u8]) -> Option<(u8, Vec<u32>)> {
+    if text.len() > LONGEST_LINE {
+        return None;
+    }
+    let mut words = text.split(|&byte| byte == b' ');
+    match words.next() {
+        Some(&[event]) => Some((event, words.map(number).collect::<Option<Vec<u32>>>()?)),
+        _ => None,
+    }
+}
+
+/// A number of 1 to 10 digits, with no spare leading zero, that 32 bits hold.
+fn number(digits: &[u8]) -> Option<u32> {
+    let plain = !digits.is_empty() && digits.len() <= 10 && digits.iter().all(u8::is_ascii_digit);
+    let spare_zero = digits.len() > 1 && digits[0] == b'0';
+    if !plain || spare_zero {
+        return None;
+    }
+    std::str::from_utf8(digits).ok()?.parse().ok()
+}

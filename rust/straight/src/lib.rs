@@ -1,0 +1,44 @@
+//! The depot register, written a second time: plainly, from the specification and `docs/LAYOUT.md` alone.
+//!
+//! It shares no line with the proved core. Where the two differ, one of them has misread the specification;
+//! `replay` looks for such a difference.
+//!
+//! A book is any `&mut [u32]`; a call on one of the wrong length answers [`Refusal::BadBook`].
+//!
+//! ```
+//! use straight::{read, setup, write, Reading, Written, WORDS};
+//!
+//! let mut book = vec![0; WORDS];
+//! setup(&mut book, 2, 2, 4, 2, &[0, 1]).unwrap();
+//! assert_eq!(write(&mut book, 0, 0, 20), Ok(Written { stamp: 1, current: true }));
+//! assert_eq!(read(&mut book, 0, 0), Ok(Reading { value: Some(20), vector: [1, 0, 0, 0] }));
+//! ```
+
+mod calls;
+mod desk;
+mod fit;
+pub mod layout;
+mod order;
+
+pub use calls::{read, refresh, setup, take, tick, write, Reading, Written};
+pub use desk::{desk, line, LONGEST_LINE};
+pub use fit::is_fit;
+pub use layout::{Counts, WORDS};
+pub use order::{above, greater};
+
+/// The refusals of the specification's table, with their numbers.
+#[derive(Clone, Copy, Debug, PartialEq, Eq)]
+pub enum Refusal {
+    BadBook = 1,
+    BadDepot = 2,
+    BadShelf = 3,
+    BadKey = 4,
+    BadCrew = 5,
+    SameDepot = 6,
+    EmptyLink = 7,
+    Wait = 8,
+    LinkFull = 9,
+    ClockAtEnd = 10,
+    BadCounts = 11,
+    BadLine = 13,
+}
