@@ -1,0 +1,65 @@
+-- The listing holds of books: the model computes it, and the bridge carries it over.
+-- Assumes nothing.
+use Prim.Native.Nat.{ℕ}
+use mathlib.Core.Path.{_≡_, sym, _∙_, ap, ap₂}
+use mathlib.Core.Bool.{Bool, not}
+use mathlib.Core.List.{List, _∷_, map}
+use lib.Dec.{lit≤}
+use lib.ListN.{length}
+use borrow.Author.Tests.{eq-eqb}
+use Rattle.order.specs.Loops.{pick, every}
+use Rattle.order.proofs.BoolLaws.{pick-true}
+use Rattle.book.specs.Layout.{bookWords, stable}
+use Rattle.fit.specs.Fit.{between, countsFit}
+use Rattle.register.specs.Answers.{answerOf}
+use Rattle.register.specs.Calls.{setUp}
+use Rattle.register.specs.Promises as promises
+use Rattle.register.specs.Table as table
+use Rattle.model.specs.Parts.{fresh}
+use Rattle.model.specs.Calls as model
+use Rattle.model.specs.Cases as cases
+use Rattle.model.proofs.Worked.{listing-holds, caseC-before, caseC-after}
+use Rattle.bridge.specs.View.{toModel}
+use Rattle.bridge.specs.Histories.{Call, setup, replyTo, bookAfter, replies, last}
+use Rattle.bridge.specs.Paper.{paper, onPaper}
+use Rattle.bridge.specs.Listing.{counts, homes, linesToB, lines, printed, Listed}
+use Rattle.bridge.proofs.Agrees.{Agrees, stable-by}
+use Rattle.bridge.proofs.Followed.{lift, lifts, agrees-start, replies-model, last-model}
+
+module _ (l : List ℕ) (full : length l ≡ bookWords) where
+  set : table.setupNumber l counts homes ≡ 0
+  unfolding table.setupNumber table.first counts homes countsFit between pick every
+  set = ap (λ (b : Bool). pick (not b) 1 0) (eq-eqb (length l) bookWords full)
+
+  start : Agrees (toModel counts) (fresh homes) (setUp counts homes)
+  start = agrees-start l counts homes set
+
+  set-book : bookAfter l (setup counts homes) ≡ setUp counts homes
+  unfolding bookAfter promises.after
+  set-book = pick-true _ _ (eq-eqb _ 0 set)
+
+  set-reply : onPaper 2 (replyTo l (setup counts homes)) ≡ model.done
+  unfolding replyTo onPaper answerOf paper pick
+  set-reply = ap (λ (k : ℕ). paper (answerOf k)) set
+
+  listed-lines : map (onPaper 2) (replies l (setup counts homes ∷ lifts cases.listing)) ≡ model.done ∷ cases.listingAnswers
+  unfolding replies counts homes cases.counts cases.homes
+  listed-lines =
+      ap₂ (λ (x : model.Answer) (y : List model.Answer). x ∷ y) set-reply
+      (ap (λ (b : List ℕ). map (onPaper 2) (replies b (lifts cases.listing))) set-book
+      ∙ replies-model (toModel counts) (fresh homes) (setUp counts homes) cases.listing start
+      ∙ listing-holds)
+
+  stable-last : (calls : List model.Call) → stable (last l (setup counts homes ∷ lifts calls)) 1 0 0 ≡ cases.stableAfter calls
+  unfolding last counts homes cases.counts cases.homes cases.stableAfter
+  stable-last calls =
+      ap (λ (b : List ℕ). stable (last b (lifts calls)) 1 0 0) set-book
+      ∙ sym (stable-by (toModel counts) _ _ (last-model (toModel counts) (fresh homes) (setUp counts homes) calls start) 1 0 0 (lit≤ tt) (lit≤ tt) (lit≤ tt))
+
+  pub listing-of-books : Listed l
+  unfolding linesToB lines printed lift lifts cases.listingToB cases.listing cases.listingAnswers
+  listing-of-books = record {
+    answers = listed-lines;
+    before = stable-last cases.listingToB ∙ caseC-before;
+    after = stable-last cases.listing ∙ caseC-after;
+  }
