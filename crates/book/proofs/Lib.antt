@@ -1,3 +1,4 @@
 pub mod Chosen
 pub mod WordsLaws
 pub mod PartsLaws
+pub mod EntryLaws

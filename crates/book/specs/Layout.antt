@@ -1,9 +1,10 @@
 -- The places of the book, as docs/LAYOUT.md has them: fixed offsets, fixed strides, whatever the counts are.
 -- Assumes nothing.
-use Prim.Native.Nat.{ℕ, _+_, _*_, _<_}
+use Prim.Native.Nat.{ℕ, _+_, _*_}
 use mathlib.Core.List.{List}
 use lib.ListN.{getD}
 use Rattle.order.specs.Vector.{Vec, vectorAt}
+use Rattle.order.specs.Record.{recordWords}
 use Rattle.book.specs.Words.{part}
 use Rattle.book.specs.declared.parts.Counts.{Counts}
 
@@ -96,7 +97,7 @@ slot l q i = part l (slotAt q i) slotWords
 
 -- the stored version of bearing k at depot d, a record of nine words
 abbrev pub stored : List ℕ → ℕ → ℕ → List ℕ
-stored l d k = part l (storedAt d k) 9
+stored l d k = part l (storedAt d k) recordWords
 
 -- ---- messages
 
@@ -116,4 +117,4 @@ beatOf m = getD m 1 0
 
 -- a copy's version record
 abbrev pub recordOf : List ℕ → List ℕ
-recordOf m = part m 1 9
+recordOf m = part m 1 recordWords

@@ -23,6 +23,7 @@ mostBearings = 64
 
 -- ---- numbers and vectors
 
+-- a number between two limits, both included
 unfoldable pub between : ℕ → ℕ → ℕ → Bool
 between low x high = leb low x && leb x high
 
@@ -71,6 +72,7 @@ copyFit n s from m = eqb (kindOf m) copyKind && carriedFit n s from (recordOf m)
 unfoldable pub beatFit : List ℕ → Bool
 beatFit m = eqb (kindOf m) beatKind && leb (beatOf m) end
 
+-- a message that waits: a heartbeat or a copy
 unfoldable pub messageFit : Counts → ℕ → ℕ → List ℕ → Bool
 messageFit n s from m = beatFit m || copyFit n s from m
 
@@ -99,6 +101,7 @@ pub record Within (n : Counts) : Type 0 where
 
 -- ---- the whole
 
+-- every crew, every shelf, every link and every stored version
 unfoldable pub homesFit : Counts → List ℕ → Bool
 homesFit n l = every (n .crews) (homeFit n l)
 

@@ -1,11 +1,9 @@
 -- What one look over a record's entries finds: the highest entry, and the stamp.
 -- Assumes nothing.
 use Prim.Native.Nat.{ℕ, max}
-use mathlib.Core.List.{List}
 use lib.Dec.{ltb}
 use Rattle.order.specs.Loops.{times, pick}
 use Rattle.order.specs.Vector.{Vec}
-use Rattle.order.specs.Record.{originOf, vectorOf}
 
 -- the highest of the n entries
 unfoldable pub highest : ℕ → Vec → ℕ

@@ -198,7 +198,7 @@ fn parts_fit(book: &[u32], n: Counts) -> bool
     stores_fit(book, n)
 }
 
-// Whether a book is fit. Any length of slice and any words get an answer; each used word is looked at once.
+// Whether a book is fit. Any length of slice and any words get an answer; no word is looked at twice.
 pub fn is_fit(book: &[u32]) -> bool
     ensures { λ r. ⌜ r ≡ fit (now (book .entry)) ⌝ }
 {
