@@ -9,4 +9,14 @@ returns : tie.Need-returns
 returns c = rw (c .taken-at .ensures, c .before .held-at .ensures)
 
 pub set-head-spec : {M : Type 1} → statement M
-set-head-spec = tie.close (tie.spec (λ c κs. search needs) (λ c. search needs) (λ c. search needs) (λ c κs. search needs) (λ c. search needs) (λ c. simp length-set (search needs)) (λ c. simp length-set) returns)
+set-head-spec =
+    tie.close
+    (tie.spec
+    (λ c κs. search needs)
+    (λ c. search needs)
+    (λ c. search needs)
+    (λ c κs. search needs)
+    (λ c. search needs)
+    (λ c. simp length-set (search needs))
+    (λ c. simp length-set)
+    returns)

@@ -41,4 +41,14 @@ returns-4 c =
     ∙ and-next _ (test-passed (at3 .before .copies-fit .ensures) (at3 .if3 .left)))
 
 pub link-fits-spec : {M : Type 1} → statement M
-link-fits-spec = tie.close (tie.spec (λ c κs. search needs) (λ c κs. search needs) returns returns-2 (λ c κs. search needs) returns-3 (λ c κs. search needs) returns-4)
+link-fits-spec =
+    tie.close
+    (tie.spec
+    (λ c κs. search needs)
+    (λ c κs. search needs)
+    returns
+    returns-2
+    (λ c κs. search needs)
+    returns-3
+    (λ c κs. search needs)
+    returns-4)

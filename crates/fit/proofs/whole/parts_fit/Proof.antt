@@ -43,4 +43,16 @@ returns-5 c =
     c .stores-fit .ensures ∙ sym (and-next _ (test-passed (at1 .before .homes-fit .ensures) (at1 .if1 .left)) ∙ and-next _ (test-passed (at2 .before .crews-fit .ensures) (at2 .if2 .left)) ∙ and-next _ (test-passed (at3 .before .shelves-fit .ensures) (at3 .if3 .left)) ∙ and-next _ (test-passed (at4 .before .links-fit .ensures) (at4 .if4 .left)))
 
 pub parts-fit-spec : {M : Type 1} → statement M
-parts-fit-spec = tie.close (tie.spec (λ c κs. search needs) returns (λ c κs. search needs) returns-2 (λ c κs. search needs) returns-3 (λ c κs. search needs) returns-4 (λ c κs. search needs) returns-5)
+parts-fit-spec =
+    tie.close
+    (tie.spec
+    (λ c κs. search needs)
+    returns
+    (λ c κs. search needs)
+    returns-2
+    (λ c κs. search needs)
+    returns-3
+    (λ c κs. search needs)
+    returns-4
+    (λ c κs. search needs)
+    returns-5)

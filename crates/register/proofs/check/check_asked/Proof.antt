@@ -73,4 +73,18 @@ returns-4 c =
     ∙ (λ z. AskCheck.Good (first .1 z) (second .1 z)))
 
 pub check-asked-spec : {M : Type 1} → statement M
-check-asked-spec = tie.close (tie.spec (λ c κs. search needs) returns counts-of-requires (λ c κs. search needs) (λ c. search needs) (λ c. search needs) returns-2 (λ c κs. search needs) (λ c. search needs) (λ c. search needs) returns-3 returns-4)
+check-asked-spec =
+    tie.close
+    (tie.spec
+    (λ c κs. search needs)
+    returns
+    counts-of-requires
+    (λ c κs. search needs)
+    (λ c. search needs)
+    (λ c. search needs)
+    returns-2
+    (λ c κs. search needs)
+    (λ c. search needs)
+    (λ c. search needs)
+    returns-3
+    returns-4)

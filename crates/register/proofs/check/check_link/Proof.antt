@@ -90,4 +90,22 @@ returns-5 c =
     ∙ (λ z. LinkCheck.Good (first .1 z) (third .1 z) (second .1 z)))
 
 pub check-link-spec : {M : Type 1} → statement M
-check-link-spec = tie.close (tie.spec (λ c κs. search needs) returns counts-of-requires (λ c κs. search needs) (λ c. search needs) (λ c. search needs) returns-2 (λ c κs. search needs) (λ c. search needs) (λ c. search needs) returns-3 (λ c κs. search needs) (λ c. search needs) (λ c. search needs) returns-4 returns-5)
+check-link-spec =
+    tie.close
+    (tie.spec
+    (λ c κs. search needs)
+    returns
+    counts-of-requires
+    (λ c κs. search needs)
+    (λ c. search needs)
+    (λ c. search needs)
+    returns-2
+    (λ c κs. search needs)
+    (λ c. search needs)
+    (λ c. search needs)
+    returns-3
+    (λ c κs. search needs)
+    (λ c. search needs)
+    (λ c. search needs)
+    returns-4
+    returns-5)

@@ -46,4 +46,20 @@ returns-2 c =
     send-done _ _ _ _ _ (other (link .before)) (link .between .ensures) (counted .held-of .ensures) (write .before .slot-at .ensures) (write .write-words .ensures) (c .held-at .ensures) (c .before .word .ensures)
 
 pub send-to-spec : {M : Type 1} → statement M
-send-to-spec = tie.close (tie.spec (λ c κs. search needs) (λ c κs. search needs) returns (λ c κs. search needs) (λ c κs. search needs) slot-at-requires write-words-requires add-word word-requires (λ c κs. search needs) (λ c. search needs) (λ c. search needs) (λ c. search needs) returns-2)
+send-to-spec =
+    tie.close
+    (tie.spec
+    (λ c κs. search needs)
+    (λ c κs. search needs)
+    returns
+    (λ c κs. search needs)
+    (λ c κs. search needs)
+    slot-at-requires
+    write-words-requires
+    add-word
+    word-requires
+    (λ c κs. search needs)
+    (λ c. search needs)
+    (λ c. search needs)
+    (λ c. search needs)
+    returns-2)

@@ -12,4 +12,18 @@ returns-2 : tie.Need-returns-2
 returns-2 c = copy-stamp _ _ _ (c .before .before .before .before .before .before .pre .3) (c .before .before .before .before .slot-at .ensures) (c .before .index .ensures) (c .before .before .before .is-beat .ensures) (c .before .before .if1 .left)
 
 pub stamp-of-spec : {M : Type 1} → statement M
-stamp-of-spec = tie.close (tie.spec (λ c κs. search needs) (λ c κs. search needs) (λ c. search needs) (λ c. search needs) (λ c. search needs) returns (λ c. search needs) (λ c κs. search needs) (λ c. search needs) (λ c. search needs) (λ c. search needs) returns-2)
+stamp-of-spec =
+    tie.close
+    (tie.spec
+    (λ c κs. search needs)
+    (λ c κs. search needs)
+    (λ c. search needs)
+    (λ c. search needs)
+    (λ c. search needs)
+    returns
+    (λ c. search needs)
+    (λ c κs. search needs)
+    (λ c. search needs)
+    (λ c. search needs)
+    (λ c. search needs)
+    returns-2)

@@ -38,4 +38,15 @@ returns c =
     take-done _ _ _ _ (link .between .ensures) (heads .before .before .held-of .ensures) (heads .taken-of .ensures) (beat .is-beat .ensures) (stamp .stamp-of .ensures) (seen .set-seen .ensures) (c .before .before .move-on .ensures)
 
 pub take-one-spec : {M : Type 1} → statement M
-take-one-spec = tie.close (tie.spec (λ c κs. search needs) (λ c κs. search needs) (λ c κs. search needs) is-beat-requires stamp-of-requires (λ c κs. search needs) move-on-requires (λ c. search needs) returns)
+take-one-spec =
+    tie.close
+    (tie.spec
+    (λ c κs. search needs)
+    (λ c κs. search needs)
+    (λ c κs. search needs)
+    is-beat-requires
+    stamp-of-requires
+    (λ c κs. search needs)
+    move-on-requires
+    (λ c. search needs)
+    returns)

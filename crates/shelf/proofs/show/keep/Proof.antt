@@ -24,4 +24,23 @@ returns-2 c =
     keep-stays _ _ _ _ (compare-lent _ _ _ _ _ (stored-at .ensures) (pre .5) (c .before .is-above .ensures)) (c .if1 .left)
 
 pub keep-spec : {M : Type 1} → statement M
-keep-spec = tie.close (tie.spec (λ c κs. search needs) (λ c. search needs) (λ c. search needs) (λ c. search needs) (λ c. search needs) (λ c. search needs) (λ c. search needs) (λ c. search needs) (λ c. search needs) (λ c. search needs) (λ c. search needs) (λ c κs. search needs) copy-words-requires (λ c. search needs) returns (λ c. search needs) returns-2)
+keep-spec =
+    tie.close
+    (tie.spec
+    (λ c κs. search needs)
+    (λ c. search needs)
+    (λ c. search needs)
+    (λ c. search needs)
+    (λ c. search needs)
+    (λ c. search needs)
+    (λ c. search needs)
+    (λ c. search needs)
+    (λ c. search needs)
+    (λ c. search needs)
+    (λ c. search needs)
+    (λ c κs. search needs)
+    copy-words-requires
+    (λ c. search needs)
+    returns
+    (λ c. search needs)
+    returns-2)

@@ -78,4 +78,18 @@ returns c =
     link-done _ _ _ _ _ (link .between .ensures) (heads .before .before .held-of .ensures) (heads .taken-of .ensures) (swept .sweep .ensures) (close .close-up .ensures) (words .before .word .ensures) (words .word2 .ensures) (c .before .before .set-head .ensures)
 
 pub show-link-spec : {M : Type 1} → statement M
-show-link-spec = tie.close (tie.spec (λ c κs. search needs) (λ c κs. search needs) (λ c κs. search needs) sweep-requires sub-gone close-up-requires sub-word word-requires word-requires-2 (λ c κs. search needs) (λ c. search needs) returns)
+show-link-spec =
+    tie.close
+    (tie.spec
+    (λ c κs. search needs)
+    (λ c κs. search needs)
+    (λ c κs. search needs)
+    sweep-requires
+    sub-gone
+    close-up-requires
+    sub-word
+    word-requires
+    word-requires-2
+    (λ c κs. search needs)
+    (λ c. search needs)
+    returns)

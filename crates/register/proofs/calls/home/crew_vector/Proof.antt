@@ -18,4 +18,19 @@ returns c =
     ∙ ap (λ (x : ℕ). getD book (x + 0) 0 ∷ getD book (x + 1) 0 ∷ getD book (x + 2) 0 ∷ getD book (x + 3) 0 ∷ []) (at .ensures)
 
 pub crew-vector-spec : {M : Type 1} → statement M
-crew-vector-spec = tie.close (tie.spec (λ c κs. search needs) (λ c. search needs) (λ c. search needs) (λ c. search needs) (λ c. search needs) (λ c. search needs) (λ c. search needs) (λ c. search needs) (λ c. search needs) (λ c. search needs) (λ c. search needs) (λ c. search needs) returns)
+crew-vector-spec =
+    tie.close
+    (tie.spec
+    (λ c κs. search needs)
+    (λ c. search needs)
+    (λ c. search needs)
+    (λ c. search needs)
+    (λ c. search needs)
+    (λ c. search needs)
+    (λ c. search needs)
+    (λ c. search needs)
+    (λ c. search needs)
+    (λ c. search needs)
+    (λ c. search needs)
+    (λ c. search needs)
+    returns)

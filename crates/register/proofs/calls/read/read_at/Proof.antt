@@ -122,4 +122,22 @@ returns c =
     }
 
 pub read-at-spec : {M : Type 1} → statement M
-read-at-spec = tie.close (tie.spec counts-of-requires home-depot-requires shelf-for-requires settle-home-requires stored-at-requires add-end mul-tell (λ c. search needs) (λ c. search needs) part-tell-end tell-requires crew-at-requires (λ c. search needs) merge-requires (λ c. search needs) returns)
+read-at-spec =
+    tie.close
+    (tie.spec
+    counts-of-requires
+    home-depot-requires
+    shelf-for-requires
+    settle-home-requires
+    stored-at-requires
+    add-end
+    mul-tell
+    (λ c. search needs)
+    (λ c. search needs)
+    part-tell-end
+    tell-requires
+    crew-at-requires
+    (λ c. search needs)
+    merge-requires
+    (λ c. search needs)
+    returns)

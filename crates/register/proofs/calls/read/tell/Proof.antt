@@ -38,4 +38,17 @@ returns-2 c =
     λ z. record { finding = sym (pick-false {A = Finding} Finding.Unwritten (Finding.Value (valueOf (now (start .args .version)))) (sym (said zero) ∙ at1 .if1 .left)) z; vector = (vector-said (zero .before .before)) z }
 
 pub tell-spec : {M : Type 1} → statement M
-tell-spec = tie.close (tie.spec (λ c. search needs) (λ c. search needs) (λ c. search needs) (λ c κs. search needs) (λ c. search needs) (λ c. search needs) (λ c. search needs) (λ c κs. search needs) returns (λ c. search needs) returns-2)
+tell-spec =
+    tie.close
+    (tie.spec
+    (λ c. search needs)
+    (λ c. search needs)
+    (λ c. search needs)
+    (λ c κs. search needs)
+    (λ c. search needs)
+    (λ c. search needs)
+    (λ c. search needs)
+    (λ c κs. search needs)
+    returns
+    (λ c. search needs)
+    returns-2)

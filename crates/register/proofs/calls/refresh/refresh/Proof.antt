@@ -40,4 +40,14 @@ returns-2 c =
     record { answer = answer-done _ (good .0); book = call .ensures ∙ ap₂ (λ (x : Depot) (y : Shelf). refreshBook book (x .0) (y .0)) (sym (good .1)) (sym (good .2)) ∙ after-done _ _ _ (good .0) }
 
 pub refresh-spec : {M : Type 1} → statement M
-refresh-spec = tie.close (tie.spec (λ c κs. search needs) (λ c. search needs) (λ c. search needs) refresh-at-requires (λ c. search needs) returns (λ c. search needs) returns-2)
+refresh-spec =
+    tie.close
+    (tie.spec
+    (λ c κs. search needs)
+    (λ c. search needs)
+    (λ c. search needs)
+    refresh-at-requires
+    (λ c. search needs)
+    returns
+    (λ c. search needs)
+    returns-2)

@@ -86,4 +86,15 @@ returns-5 c =
 
 pub setup-spec : {M : Type 1} → statement M
 setup-spec =
-    tie.close (tie.spec returns (λ c κs. search needs) (λ c κs. search needs) returns-2 returns-3 (λ c κs. search needs) returns-4 write-fresh-requires (λ c. search needs) returns-5)
+    tie.close
+    (tie.spec
+    returns
+    (λ c κs. search needs)
+    (λ c κs. search needs)
+    returns-2
+    returns-3
+    (λ c κs. search needs)
+    returns-4
+    write-fresh-requires
+    (λ c. search needs)
+    returns-5)

@@ -104,4 +104,17 @@ returns-3 c =
     record { answer = answer-done _ e; book = c .before .before .take-one .ensures ∙ after-done _ _ _ e }
 
 pub take-at-spec : {M : Type 1} → statement M
-take-at-spec = tie.close (tie.spec (λ c κs. search needs) (λ c κs. search needs) returns between-requires held-of-requires taken-of-requires (λ c. search needs) returns-2 take-one-requires (λ c. search needs) returns-3)
+take-at-spec =
+    tie.close
+    (tie.spec
+    (λ c κs. search needs)
+    (λ c κs. search needs)
+    returns
+    between-requires
+    held-of-requires
+    taken-of-requires
+    (λ c. search needs)
+    returns-2
+    take-one-requires
+    (λ c. search needs)
+    returns-3)

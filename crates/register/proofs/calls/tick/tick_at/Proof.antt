@@ -100,4 +100,18 @@ returns-3 c =
     record { answer = answer-done _ e; book = changed ∙ after-done _ _ _ e }
 
 pub tick-at-spec : {M : Type 1} → statement M
-tick-at-spec = tie.close (tie.spec clock-of-requires (λ c. search needs) returns counts-of-requires is-roomy-requires (λ c. search needs) returns-2 (λ c. search needs) (λ c. search needs) send-requires (λ c. search needs) returns-3)
+tick-at-spec =
+    tie.close
+    (tie.spec
+    clock-of-requires
+    (λ c. search needs)
+    returns
+    counts-of-requires
+    is-roomy-requires
+    (λ c. search needs)
+    returns-2
+    (λ c. search needs)
+    (λ c. search needs)
+    send-requires
+    (λ c. search needs)
+    returns-3)

@@ -21,4 +21,13 @@ returns c =
     ∙ (λ z. copyKind ∷ bearing z ∷ args .value ∷ 0 ∷ 0 ∷ origin z ∷ getD (vector z) 0 0 ∷ getD (vector z) 1 0 ∷ getD (vector z) 2 0 ∷ getD (vector z) 3 0 ∷ [])
 
 pub made-copy-spec : {M : Type 1} → statement M
-made-copy-spec = tie.close (tie.spec (λ c κs. search needs) (λ c κs. search needs) (λ c κs. search needs) (λ c κs. search needs) (λ c κs. search needs) (λ c κs. search needs) returns)
+made-copy-spec =
+    tie.close
+    (tie.spec
+    (λ c κs. search needs)
+    (λ c κs. search needs)
+    (λ c κs. search needs)
+    (λ c κs. search needs)
+    (λ c κs. search needs)
+    (λ c κs. search needs)
+    returns)

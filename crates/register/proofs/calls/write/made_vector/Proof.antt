@@ -22,4 +22,13 @@ returns c =
     c .cut-vector .ensures ∙ cut-set _ _ _ _ (start .pre .1) (start .pre .3) (c .before .before .before .crew-vector .ensures) (c .before .before .index .ensures)
 
 pub made-vector-spec : {M : Type 1} → statement M
-made-vector-spec = tie.close (tie.spec (λ c κs. search needs) (λ c κs. search needs) (λ c. search needs) (λ c. search needs) (λ c. search needs) cut-vector-requires returns)
+made-vector-spec =
+    tie.close
+    (tie.spec
+    (λ c κs. search needs)
+    (λ c κs. search needs)
+    (λ c. search needs)
+    (λ c. search needs)
+    (λ c. search needs)
+    cut-vector-requires
+    returns)

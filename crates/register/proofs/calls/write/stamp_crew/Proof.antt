@@ -11,4 +11,14 @@ returns : tie.Need-returns
 returns c = λ z. set (c .before .before .before .before .settle-home .ensures z) (c .before .crew-at .ensures z + c .index .ensures z) (c .before .before .before .before .before .before .before .args .stamp)
 
 pub stamp-crew-spec : {M : Type 1} → statement M
-stamp-crew-spec = tie.close (tie.spec (λ c κs. search needs) (λ c κs. search needs) (λ c κs. search needs) (λ c. search needs) (λ c. search needs) (λ c. search needs) (λ c. search needs) returns)
+stamp-crew-spec =
+    tie.close
+    (tie.spec
+    (λ c κs. search needs)
+    (λ c κs. search needs)
+    (λ c κs. search needs)
+    (λ c. search needs)
+    (λ c. search needs)
+    (λ c. search needs)
+    (λ c. search needs)
+    returns)

@@ -42,4 +42,14 @@ returns-2 c =
     subst₂ (λ (x : Crew) (y : Bearing). Write (now (args .book)) (x .0) (y .0) (args .value) (call .result) (call .last .0)) (sym (good .1)) (sym (good .2)) (call .ensures)
 
 pub write-spec : {M : Type 1} → statement M
-write-spec = tie.close (tie.spec (λ c κs. search needs) (λ c. search needs) (λ c. search needs) write-at-requires (λ c. search needs) returns (λ c. search needs) returns-2)
+write-spec =
+    tie.close
+    (tie.spec
+    (λ c κs. search needs)
+    (λ c. search needs)
+    (λ c. search needs)
+    write-at-requires
+    (λ c. search needs)
+    returns
+    (λ c. search needs)
+    returns-2)

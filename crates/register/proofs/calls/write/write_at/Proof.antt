@@ -197,4 +197,26 @@ returns-4 c =
     record { answer = call .ensures .0 ∙ sym (pick-true _ _ (eq-eqb _ _ e)); book = call .ensures .1 ∙ after-done _ _ _ e }
 
 pub write-at-spec : {M : Type 1} → statement M
-write-at-spec = tie.close (tie.spec counts-of-requires home-depot-requires shelf-for-requires clock-of-requires crew-at-requires (λ c κs. search needs) add-if1 mul-if1 slice-read-if1 (λ c. search needs) returns (λ c. search needs) returns-2 is-roomy-requires (λ c. search needs) returns-3 add-write-version write-version-requires (λ c. search needs) returns-4)
+write-at-spec =
+    tie.close
+    (tie.spec
+    counts-of-requires
+    home-depot-requires
+    shelf-for-requires
+    clock-of-requires
+    crew-at-requires
+    (λ c κs. search needs)
+    add-if1
+    mul-if1
+    slice-read-if1
+    (λ c. search needs)
+    returns
+    (λ c. search needs)
+    returns-2
+    is-roomy-requires
+    (λ c. search needs)
+    returns-3
+    add-write-version
+    write-version-requires
+    (λ c. search needs)
+    returns-4)

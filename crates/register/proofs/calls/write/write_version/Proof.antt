@@ -97,4 +97,17 @@ returns c =
     )
 
 pub write-version-spec : {M : Type 1} → statement M
-write-version-spec = tie.close (tie.spec made-copy-requires stamp-crew-requires (λ c. search needs) (λ c. search needs) (λ c. search needs) keep-record-requires (λ c. search needs) send-requires (λ c κs. search needs) (λ c. search needs) returns)
+write-version-spec =
+    tie.close
+    (tie.spec
+    made-copy-requires
+    stamp-crew-requires
+    (λ c. search needs)
+    (λ c. search needs)
+    (λ c. search needs)
+    keep-record-requires
+    (λ c. search needs)
+    send-requires
+    (λ c κs. search needs)
+    (λ c. search needs)
+    returns)
