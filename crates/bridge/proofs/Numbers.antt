@@ -1,18 +1,19 @@
 -- The refusals agree: of a fit book each check on the words is the model's check on the view, in the same order; and a number read as an answer is
 -- the same number on paper.
 -- Assumes nothing.
-use Prim.Native.Nat.{ℕ, _%_, _<_}
+use Prim.Native.Nat.{ℕ, suc, _%_, _<_}
 use native.Mathlib.Nat.{mod-lt}
 use mathlib.Core.Path.{_≡_, refl, sym, _∙_, ap, ap₂}
 use mathlib.Core.Logic.{_⊎_, inl, inr, ⊎-elim}
 use mathlib.Core.Bool.{Bool, true, false, not, _||_, false≢true}
 use mathlib.Core.List.{List}
 use lib.Dec.{eqb, ltb, leb}
-use borrow.Author.Tests.{leb-false, lt-ltb, eqb-false}
+use borrow.Author.Tests.{leb-true, leb-false, lt-ltb, eqb-false}
 use Rattle.order.specs.Loops.{pick}
 use Rattle.order.proofs.BoolLaws.{pick-true, pick-false}
 use Rattle.book.specs.Layout.{home, crewVector, clock}
 use Rattle.fit.specs.Fit.{fit}
+use Rattle.register.proofs.NeverBadAnswer.{refusal-number}
 use Rattle.register.specs.Answers.{numberOf, refusalOf, answerOf, readRefused, writeRefused}
 use Rattle.register.specs.Table as table
 use Rattle.register.specs.declared.answer.ReadAnswer.{ReadAnswer}
@@ -101,32 +102,37 @@ pub record Known (n : ℕ) : Type 0 where
 pub known-none : Known 0
 known-none = record { carried = inl refl }
 
-pub known-pick : (t : Bool) (n : ℕ) {x : ℕ} → numberOf (refusalOf n) ≡ n → Known x → Known (pick t n x)
+-- a number from 1 to 11 is on paper
+named : (n : ℕ) → leb n 11 ≡ true → eqb n 0 ≡ false → numberOf (refusalOf n) ≡ n
+named Prim.Native.Nat.zero h z = absurd (eqb-false 0 0 z refl)
+named (suc k) h z = refusal-number k (leb-true _ _ h)
+
+pub known-pick : (t : Bool) (n : ℕ) {x : ℕ} → leb n 11 ≡ true → eqb n 0 ≡ false → Known x → Known (pick t n x)
 unfolding pick
-known-pick true n h k = record { carried = inr h }
-known-pick false n h k = k
+known-pick true n h z k = record { carried = inr (named n h z) }
+known-pick false n h z k = k
 
 module _ (l : List ℕ) where
   pub read-known : (c k : ℕ) → Known (table.readNumber l c k)
-  unfolding table.readNumber table.first numberOf refusalOf
-  read-known c k = known-pick _ 1 refl (known-pick _ 5 refl (known-pick _ 4 refl known-none))
+  unfolding table.readNumber table.first
+  read-known c k = known-pick _ 1 refl refl (known-pick _ 5 refl refl (known-pick _ 4 refl refl known-none))
 
   pub write-known : (c k : ℕ) → Known (table.writeNumber l c k)
-  unfolding table.writeNumber table.first numberOf refusalOf
+  unfolding table.writeNumber table.first
   write-known c k =
-      known-pick _ 1 refl (known-pick _ 5 refl (known-pick _ 4 refl (known-pick _ 8 refl (known-pick _ 10 refl (known-pick _ 9 refl known-none)))))
+      known-pick _ 1 refl refl (known-pick _ 5 refl refl (known-pick _ 4 refl refl (known-pick _ 8 refl refl (known-pick _ 10 refl refl (known-pick _ 9 refl refl known-none)))))
 
   pub tick-known : (d s : ℕ) → Known (table.tickNumber l d s)
-  unfolding table.tickNumber table.first numberOf refusalOf
-  tick-known d s = known-pick _ 1 refl (known-pick _ 2 refl (known-pick _ 3 refl (known-pick _ 10 refl (known-pick _ 9 refl known-none))))
+  unfolding table.tickNumber table.first
+  tick-known d s = known-pick _ 1 refl refl (known-pick _ 2 refl refl (known-pick _ 3 refl refl (known-pick _ 10 refl refl (known-pick _ 9 refl refl known-none))))
 
   pub take-known : (d s from : ℕ) → Known (table.takeNumber l d s from)
-  unfolding table.takeNumber table.first numberOf refusalOf
-  take-known d s from = known-pick _ 1 refl (known-pick _ 2 refl (known-pick _ 3 refl (known-pick _ 6 refl (known-pick _ 7 refl known-none))))
+  unfolding table.takeNumber table.first
+  take-known d s from = known-pick _ 1 refl refl (known-pick _ 2 refl refl (known-pick _ 3 refl refl (known-pick _ 6 refl refl (known-pick _ 7 refl refl known-none))))
 
   pub refresh-known : (d s : ℕ) → Known (table.refreshNumber l d s)
-  unfolding table.refreshNumber table.first numberOf refusalOf
-  refresh-known d s = known-pick _ 1 refl (known-pick _ 2 refl (known-pick _ 3 refl known-none))
+  unfolding table.refreshNumber table.first
+  refresh-known d s = known-pick _ 1 refl refl (known-pick _ 2 refl refl (known-pick _ 3 refl refl known-none))
 
 refusal-known : {n : ℕ} → Known n → eqb n 0 ≡ false → numberOf (refusalOf n) ≡ n
 refusal-known {n} k t = ⊎-elim (λ (e : n ≡ 0). absurd (eqb-false n 0 t e)) (λ (e : numberOf (refusalOf n) ≡ n). e) (k .carried)

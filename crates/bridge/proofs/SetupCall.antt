@@ -14,7 +14,6 @@ use Rattle.book.specs.declared.parts.Counts.{Counts}
 use Rattle.book.specs.Layout.{bookWords}
 use Rattle.fit.specs.Fit.{between, countsFit}
 use Rattle.fit.proofs.FitLaws.{counts-within}
-use Rattle.register.specs.Answers.{numberOf, refusalOf}
 use Rattle.register.specs.Calls.{setUp}
 use Rattle.register.specs.Promises.{after, Setup}
 use Rattle.register.specs.Table as table
@@ -46,8 +45,8 @@ module _ (l : List ℕ) (full : length l ≡ bookWords) (n : Counts) (homes : Li
       (one-test (between 1 (n .depots) 4) (between 1 (n .shelves) 4) (between 1 (n .bearings) 64) (between 1 (n .crews) 16) (eqb (length homes) (n .crews)))
 
   known : Known (table.setupNumber l n homes)
-  unfolding table.setupNumber table.first numberOf refusalOf
-  known = known-pick _ 1 refl (known-pick _ 11 refl (known-pick _ 2 refl known-none))
+  unfolding table.setupNumber table.first
+  known = known-pick _ 1 refl refl (known-pick _ 11 refl refl (known-pick _ 2 refl refl known-none))
 
   pub setup-bridge : (r : register.Answer) (l′ : List ℕ) → Setup l n homes r l′ → BridgedSetup l n homes (paper r) l′
   unfolding after

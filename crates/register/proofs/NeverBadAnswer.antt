@@ -19,7 +19,7 @@ use Rattle.register.specs.declared.answer.Answer.{Answer}
 use Rattle.register.specs.declared.answer.Finding.{Finding}
 use Rattle.register.specs.declared.answer.ReadAnswer.{ReadAnswer}
 use Rattle.register.specs.declared.answer.WriteAnswer.{WriteAnswer}
-use Rattle.register.specs.Answers.{numberOf, refusalOf, answerOf, tells, readRefused, writes, writeRefused}
+use Rattle.register.specs.Answers.{numberOf, refusalOf, answerOf, tells, readRefused, writes, writeRefused, numbered}
 use Rattle.register.specs.Table.{first, setupNumber, readNumber, writeNumber, tickNumber, takeNumber, refreshNumber}
 use Rattle.register.specs.Promises.{Setup, Read, Write, Tick, Take, Refresh, after}
 use Rattle.register.proofs.History.{Call, setup, read, write, tick, take, refresh, numberAt, changedAt, bookAfter}
@@ -95,7 +95,7 @@ number-under (refresh d s) l = under-more _ 1 _ (omega arith) (under-more _ 2 _ 
 
 -- each refusal has its own number
 pub refusal-number : (k : ℕ) → k < 11 → numberOf (refusalOf (suc k)) ≡ suc k
-unfolding every numberOf refusalOf
+unfolding every numberOf refusalOf numbered pick
 refusal-number k h = eqb-true _ _ (every-at 11 (λ i. eqb (numberOf (refusalOf (suc i))) (suc i)) refl k h)
 
 bad-is-one : (k : ℕ) → k ≤ 11 → (k ≡ 0 → ⊥) → (k ≡ 1 → ⊥) → refusalOf k ≡ BadBook → ⊥

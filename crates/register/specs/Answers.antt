@@ -4,7 +4,6 @@ use Prim.Native.Nat.{ℕ}
 use mathlib.Core.Bool.{Bool}
 use mathlib.Core.List.{List, [], _∷_}
 use lib.Dec.{eqb, ltb}
-use lib.ListN.{getD}
 use Rattle.order.specs.Loops.{pick}
 use Rattle.order.specs.Vector.{Vec, zeros}
 use Rattle.order.specs.Record.{valueOf, vectorOf}
@@ -29,10 +28,18 @@ numberOf LinkFull = 9
 numberOf ClockAtEnd = 10
 numberOf BadCounts = 11
 
--- the refusal that has a number from 1 to 11
+-- every refusal
+abbrev pub refusals : List Refusal
+refusals = BadBook ∷ BadDepot ∷ BadShelf ∷ BadKey ∷ BadCrew ∷ SameDepot ∷ EmptyLink ∷ Wait ∷ LinkFull ∷ ClockAtEnd ∷ BadCounts ∷ []
+
+-- the one of a list that has number n; a number that none has does not arise: `refusal-number`, `number-under`
+unfoldable pub numbered : ℕ → List Refusal → Refusal
+numbered n [] = BadBook
+numbered n (r ∷ rs) = pick (eqb (numberOf r) n) r (numbered n rs)
+
+-- the refusal that has number n
 unfoldable pub refusalOf : ℕ → Refusal
-refusalOf n =
-    getD (BadBook ∷ BadBook ∷ BadDepot ∷ BadShelf ∷ BadKey ∷ BadCrew ∷ SameDepot ∷ EmptyLink ∷ Wait ∷ LinkFull ∷ ClockAtEnd ∷ BadCounts ∷ []) n BadBook
+refusalOf n = numbered n refusals
 
 -- the answer with a number: 0 is done
 unfoldable pub answerOf : ℕ → Answer

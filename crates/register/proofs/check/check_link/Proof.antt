@@ -11,7 +11,7 @@ use Rattle.book.specs.Layout.{countsOf}
 use Rattle.fit.specs.Fit.{fit}
 use Rattle.fit.proofs.FitLaws.{fit-open}
 use Rattle.register.specs.declared.check.LinkCheck.{LinkCheck}
-use Rattle.register.specs.Answers.{refusalOf}
+use Rattle.register.specs.Answers.{refusalOf, numbered, numberOf}
 use Rattle.register.specs.Checks.{linkOfNumber}
 use Rattle.register.proofs.TakeTable.{link-book, link-depot, link-from, link-shelf, link-good}
 use Rattle.register.proofs.KindLaws.{good-depot, bad-depot, good-shelf, bad-shelf}
@@ -31,7 +31,7 @@ depots-under : (c : tie.After-counts-of) (x : ℕ) → x < c .counts-of .result 
 depots-under c x = subst (λ (m : Counts). x < m .depots) (c .counts-of .ensures)
 
 returns : tie.Need-returns
-unfolding linkOfNumber refusalOf pick
+unfolding linkOfNumber refusalOf numbered numberOf pick
 returns c =
     let args = c .before .before .before .args in
     sym (ap (λ (x : ℕ). linkOfNumber x (args .depot) (args .shelf) (args .from)) (link-book (now (args .book)) _ _ _ (test-failed (c .before .is-fit .ensures) (c .if1 .taken))))
@@ -40,7 +40,7 @@ counts-of-requires : tie.Need-counts-of-requires
 counts-of-requires c κs = fit-open _ (is-fit-book c) .full
 
 returns-2 : tie.Need-returns-2
-unfolding linkOfNumber refusalOf pick
+unfolding linkOfNumber refusalOf numbered numberOf pick
 returns-2 c =
     let at = c .before .before in
     let args = at .before .before .before .before .before .args in
@@ -48,7 +48,7 @@ returns-2 c =
     sym (ap (λ (x : ℕ). linkOfNumber x (args .depot) (args .shelf) (args .from)) (link-depot (now (args .book)) _ _ _ (is-fit-book (at .before .before)) over))
 
 returns-3 : tie.Need-returns-3
-unfolding linkOfNumber refusalOf pick
+unfolding linkOfNumber refusalOf numbered numberOf pick
 returns-3 c =
     let at2 = c .before .before in
     let at = at2 .before .before .before .before in
@@ -57,7 +57,7 @@ returns-3 c =
     sym (ap (λ (x : ℕ). linkOfNumber x (args .depot) (args .shelf) (args .from)) (link-from (now (args .book)) _ _ _ (is-fit-book (at .before .before)) over))
 
 returns-4 : tie.Need-returns-4
-unfolding linkOfNumber refusalOf pick
+unfolding linkOfNumber refusalOf numbered numberOf pick
 returns-4 c =
     let at3 = c .before .before in
     let at2 = at3 .before .before .before .before in
@@ -71,7 +71,7 @@ returns-4 c =
     sym (ap (λ (x : ℕ). linkOfNumber x (args .depot) (args .shelf) (args .from)) (link-shelf book _ _ _ (is-fit-book (at .before .before)) under under2 over))
 
 returns-5 : tie.Need-returns-5
-unfolding linkOfNumber refusalOf pick
+unfolding linkOfNumber refusalOf numbered numberOf pick
 returns-5 c =
     let at3 = c .before .before .before in
     let at2 = at3 .before .before .before .before in

@@ -13,7 +13,7 @@ use Rattle.book.specs.declared.numbers.Shelf.{Shelf}
 use Rattle.fit.specs.Fit.{fit}
 use Rattle.fit.proofs.FitLaws.{fit-open}
 use Rattle.register.specs.declared.check.PlaceCheck.{PlaceCheck}
-use Rattle.register.specs.Answers.{refusalOf}
+use Rattle.register.specs.Answers.{refusalOf, numbered, numberOf}
 use Rattle.register.specs.Checks.{placeOf}
 use Rattle.register.proofs.TableLaws.{place-book, place-depot, place-shelf, place-good}
 use Rattle.register.proofs.KindLaws.{good-depot, bad-depot, good-shelf, bad-shelf}
@@ -26,7 +26,7 @@ is-fit-book : (c : tie.Else1) → fit (now (c .before .before .before .args .boo
 is-fit-book c = test-passed (c .before .is-fit .ensures) (c .if1 .left)
 
 returns : tie.Need-returns
-unfolding placeOf refusalOf pick
+unfolding placeOf refusalOf numbered numberOf pick
 returns c =
     let args = c .before .before .before .args in
     sym (ap (λ (x : ℕ). placeOf x (args .depot) (args .shelf)) (place-book (now (args .book)) _ _ (test-failed (c .before .is-fit .ensures) (c .if1 .taken))))
@@ -35,7 +35,7 @@ counts-of-requires : tie.Need-counts-of-requires
 counts-of-requires c κs = fit-open _ (is-fit-book c) .full
 
 returns-2 : tie.Need-returns-2
-unfolding placeOf refusalOf pick
+unfolding placeOf refusalOf numbered numberOf pick
 returns-2 c =
     let at = c .before .before in
     let n = at .before .counts-of .ensures in
@@ -44,7 +44,7 @@ returns-2 c =
     sym (ap (λ (x : ℕ). placeOf x (args .depot) (args .shelf)) (place-depot (now (args .book)) _ _ (is-fit-book (at .before .before)) over))
 
 returns-3 : tie.Need-returns-3
-unfolding placeOf refusalOf pick
+unfolding placeOf refusalOf numbered numberOf pick
 returns-3 c =
     let at2 = c .before .before in
     let at = at2 .before .before .before .before in
@@ -57,7 +57,7 @@ returns-3 c =
     sym (ap (λ (x : ℕ). placeOf x (args .depot) (args .shelf)) (place-shelf book _ _ (is-fit-book (at .before .before)) under over))
 
 returns-4 : tie.Need-returns-4
-unfolding placeOf refusalOf pick
+unfolding placeOf refusalOf numbered numberOf pick
 returns-4 c =
     let at2 = c .before .before .before in
     let at = at2 .before .before .before .before in

@@ -6,12 +6,12 @@ use mathlib.Core.Bool.{true}
 use denote.Ref.{now}
 use lib.Dec.{ltb, lit≤}
 use lib.ListN.{length, getD}
-use Rattle.order.specs.Loops.{every}
+use Rattle.order.specs.Loops.{every, pick}
 use Rattle.order.proofs.BoolLaws.{test-passed, test-failed}
 use Rattle.book.specs.declared.parts.Counts.{Counts}
 use Rattle.fit.specs.Fit.{countsFit}
 use Rattle.fit.proofs.FitLaws.{counts-within}
-use Rattle.register.specs.Answers.{refusalOf}
+use Rattle.register.specs.Answers.{refusalOf, numbered, numberOf}
 use Rattle.register.proofs.SetupLaws.{setup-book, setup-counts, setup-crews, setup-home, setup-good, setup-refused, setup-done}
 use borrow.Author.Needs.{needs}
 use Rattle.register.proofs.calls.setup.setup.Statement.{statement}
@@ -28,17 +28,17 @@ counts-said : (c : tie.After-counts-fit) → c .counts-fit .result ≡ countsFit
 counts-said c = c .counts-fit .ensures ∙ ap countsFit (c .before .counts-from .ensures)
 
 returns : tie.Need-returns
-unfolding refusalOf
+unfolding refusalOf numbered numberOf pick
 returns c = setup-refused _ _ _ 1 (setup-book _ _ _ (c .if1 .taken)) (lit≤ tt) refl refl
 
 returns-2 : tie.Need-returns-2
-unfolding refusalOf
+unfolding refusalOf numbered numberOf pick
 returns-2 c =
     let fits = c .before in
     setup-refused _ _ _ 11 (setup-counts _ _ _ (fits .before .before .if1 .left) (test-failed (counts-said fits) (c .if2 .taken))) (lit≤ tt) refl refl
 
 returns-3 : tie.Need-returns-3
-unfolding refusalOf
+unfolding refusalOf numbered numberOf pick
 returns-3 c =
     let fits = c .before .before .before in
     setup-refused _ _ _ 11
@@ -64,7 +64,7 @@ homes-said c =
     c .are-depots .ensures ∙ ap (λ (n : Counts). every (n .crews) (λ x. ltb (getD (now (made .before .before .before .before .args .homes)) x 0) (n .depots))) (made .counts-from .ensures)
 
 returns-4 : tie.Need-returns-4
-unfolding refusalOf
+unfolding refusalOf numbered numberOf pick
 returns-4 c =
     let tested = c .before .before in
     let full = tested .before .before .before .before .before .if1 .left in

@@ -6,8 +6,9 @@ use native.Mathlib.Omega.{arith}
 use mathlib.Core.Path.{_≡_, _∙_, refl, sym, ap, subst}
 use denote.Ref.{now}
 use lib.Dec.{lit≤}
+use Rattle.order.specs.Loops.{pick}
 use Rattle.book.specs.Layout.{countsOf, linkOf, held, taken}
-use Rattle.register.specs.Answers.{refusalOf}
+use Rattle.register.specs.Answers.{refusalOf, numbered, numberOf}
 use Rattle.register.specs.Calls.{takeBook}
 use Rattle.register.proofs.CallLaws.{not-done, refused-answer, refused-book, answer-done, after-done}
 use Rattle.register.proofs.FitParts.{Whole, whole-open}
@@ -43,7 +44,7 @@ heads c =
     (c .before .before .held-of .ensures ∙ ap (held (now (args .book))) (link .between .ensures), c .taken-of .ensures ∙ ap (taken (now (args .book))) (link .between .ensures))
 
 returns : tie.Need-returns
-unfolding refusalOf
+unfolding refusalOf numbered numberOf pick
 returns c =
     let start = c .before .before .before .before in
     let pre = start .pre in
@@ -61,7 +62,7 @@ taken-of-requires : tie.Need-taken-of-requires
 taken-of-requires c κs = (whole (c .before .before .before .before .before .before .before .before) .full, small (c .before .before .before))
 
 returns-2 : tie.Need-returns-2
-unfolding refusalOf
+unfolding refusalOf numbered numberOf pick
 returns-2 c =
     let link = c .before .before .before .before .before in
     let start = link .before .before .before .before .before in

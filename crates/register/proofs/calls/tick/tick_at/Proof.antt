@@ -7,12 +7,13 @@ use mathlib.Core.Bool.{true, false}
 use mathlib.Core.List.{List, _∷_}
 use denote.Ref.{now}
 use lib.Dec.{lit≤}
+use Rattle.order.specs.Loops.{pick}
 use Rattle.order.proofs.BoolLaws.{test-passed, test-failed}
 use Rattle.book.specs.declared.parts.Counts.{Counts}
 use Rattle.book.specs.Layout.{countsOf, clock}
 use Rattle.shelf.specs.Send.{roomy, beat, sent}
 use Rattle.shelf.specs.Asks.{Free}
-use Rattle.register.specs.Answers.{refusalOf}
+use Rattle.register.specs.Answers.{refusalOf, numbered, numberOf}
 use Rattle.register.specs.Calls.{tickBook}
 use Rattle.register.proofs.CallLaws.{not-done, refused-answer, refused-book, answer-done, after-done}
 use Rattle.register.proofs.FitParts.{Whole, whole-open}
@@ -46,7 +47,7 @@ clock-of-requires c κs =
     (w .full, lt-of-lt-of-le (start .pre .1) (w .within .depots), lt-of-lt-of-le (start .pre .2) (w .within .shelves))
 
 returns : tie.Need-returns
-unfolding refusalOf
+unfolding refusalOf numbered numberOf pick
 returns c =
     let start = c .before .before .before .before in
     let e = tick-end _ _ _ (start .pre .0) (start .pre .1) (start .pre .2) (subst (λ (x : ℕ). 2147483647 ≤ x) (c .before .clock-of .ensures) (c .if1 .taken)) in
@@ -66,7 +67,7 @@ is-roomy-requires c κs =
     )
 
 returns-2 : tie.Need-returns-2
-unfolding refusalOf
+unfolding refusalOf numbered numberOf pick
 returns-2 c =
     let at1 = c .before .before .before .before .before in
     let start = at1 .before .before .before .before in

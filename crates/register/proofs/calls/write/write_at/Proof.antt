@@ -8,11 +8,12 @@ use denote.Ref.{now}
 use lib.Dec.{lit≤}
 use lib.ListN.{getD}
 use borrow.Author.Tests.{eq-eqb}
+use Rattle.order.specs.Loops.{pick}
 use Rattle.order.proofs.BoolLaws.{pick-true, test-passed, test-failed}
 use Rattle.book.specs.declared.parts.Counts.{Counts}
 use Rattle.book.specs.Layout.{countsOf, home, crewVector, clock}
 use Rattle.shelf.specs.Send.{roomy}
-use Rattle.register.specs.Answers.{refusalOf}
+use Rattle.register.specs.Answers.{refusalOf, numbered, numberOf}
 use Rattle.register.specs.Table.{shelfOf, writeNumber}
 use Rattle.register.specs.Checks.{MayWrite}
 use Rattle.register.proofs.CallLaws.{not-done, refused-write, refused-book, after-done}
@@ -153,7 +154,7 @@ slice-read-if1 c =
     omega (arith, h .0, h .2, full, c .before .index .ensures, c .before .before .crew-at .ensures)
 
 returns : tie.Need-returns
-unfolding refusalOf
+unfolding refusalOf numbered numberOf pick
 returns c =
     let at = c .before .before in
     let start = at .before .before .before .before .before .before .before .before .before .before in
@@ -161,7 +162,7 @@ returns c =
     record { answer = refused-write _ 8 _ e (not-done 8 refl (lit≤ tt)) refl; book = refused-book _ 8 _ _ e (not-done 8 refl (lit≤ tt)) }
 
 returns-2 : tie.Need-returns-2
-unfolding refusalOf
+unfolding refusalOf numbered numberOf pick
 returns-2 c =
     let at1 = c .before in
     let at = at1 .before .before in
@@ -176,7 +177,7 @@ is-roomy-requires c κs =
     (whole (shelf .before .before .before .before .before .before) .full, h .3, h .0, h .1)
 
 returns-3 : tie.Need-returns-3
-unfolding refusalOf
+unfolding refusalOf numbered numberOf pick
 returns-3 c =
     let at2 = c .before .before .before in
     let start = at2 .before .before .before .before .before .before .before .before .before .before .before .before .before in
