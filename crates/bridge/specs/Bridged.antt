@@ -35,7 +35,7 @@ pub record BridgedSetup (l : List ℕ) (n : Counts) (homes : List ℕ) (answer :
   pub fits : setup (toModel n) homes ≡ 0 → fit l′ ≡ true
   pub stays : (setup (toModel n) homes ≡ 0 → ⊥) → l′ ≡ l
 
--- the bridge: for every fit book and all inputs, what the promise of a call says is what the model does
+-- the bridge: for every fit book and all inputs, what the promise of a call says is what the model does; for setup, every book of full length
 pub record Bridge : Type 0 where
   pub of-setup : (l : List ℕ) → length l ≡ bookWords → (n : Counts) (homes : List ℕ) (r : register.Answer) (l′ : List ℕ) → promises.Setup l n homes r l′
       → BridgedSetup l n homes (paper r) l′

@@ -23,9 +23,9 @@ unfolding fit
 fit-length l h = and-stop _ (ne-eqb _ _ h)
 
 -- the book of document 01's setup line, `S 2 2 4 2 0 1`
-pub setup-fit : fit (2 ∷ 2 ∷ 4 ∷ 2 ∷ 0 ∷ 1 ∷ replicate 16378 0) ≡ true
+pub listing-fit : fit (2 ∷ 2 ∷ 4 ∷ 2 ∷ 0 ∷ 1 ∷ replicate 16378 0) ≡ true
 unfolding fit between inRange othersInRange countsFit homeFit crewFit shelfFit versionFit linkFit keptFit storedFit homesFit crewsFit shelvesFit linksFit storesFit partsFit every covered zeros part
-setup-fit = refl
+listing-fit = refl
 
 -- two depots with one shelf, bearing and crew each: depot 0 has written 20 with the vector (1, 0) and then ticked, and depot 1 has taken the
 -- copy and not the heartbeat

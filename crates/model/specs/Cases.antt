@@ -1,4 +1,4 @@
--- The worked cases that speak of the model: the listing with (a) to (c), and (f), (g).
+-- The worked cases that speak of the model: the listing with (a) to (c), and (d) to (g).
 -- Assumes nothing.
 use Prim.Native.Nat.{ℕ, zero, suc}
 use mathlib.Core.List.{List, [], _∷_, _++_}

@@ -53,7 +53,7 @@ fn entries_for(depots: u32) -> usize
 }
 
 // Whether b, handed in as a record, is the greater version than a. One of the wrong length counts as unwritten.
-fn exceeds(b: &[u32], a: &[u32], n: usize) -> bool
+pub fn exceeds(b: &[u32], a: &[u32], n: usize) -> bool
     requires { ⌜ n ≤ mostDepots ⌝ }
     ensures { λ r. ⌜ r ≡ above n (rankIn (now (b .entry))) (rankIn (now (a .entry))) ⌝ }
 {

@@ -113,7 +113,7 @@ fn sweep(book: &mut [u32], n: usize, d: Depot, s: Shelf, q: Link, count: usize) 
     kept
 }
 
-// A number below the room of a link, as a word.
+// A number up to the room of a link, as a word.
 pub fn word(count: usize) -> u32
     requires { ⌜ count ≤ linkRoom ⌝ }
     ensures { λ r. ⌜ r ≡ count ⌝ }

@@ -1,0 +1,4 @@
+-- What the proofs of several functions use.
+pub mod NumberLaws
+pub mod OutLaws
+pub mod GreaterLaws

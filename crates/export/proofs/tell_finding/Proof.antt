@@ -1,0 +1,53 @@
+-- `export::tell_finding` meets its contract: each finding leaves its words and has its number.
+-- Assumes nothing.
+use mathlib.Core.Path.{_≡_, sym, _∙_, ap}
+use denote.Ref.{now}
+use Rattle.register.specs.declared.answer.Finding.{Finding}
+use Rattle.export.specs.Numbers.{findingNumber, foundOut}
+use borrow.Author.Needs.{needs}
+use Rattle.export.proofs.tell_finding.Statement.{statement}
+use Rattle.export.proofs.tell_finding.Tie as tie
+
+returns : tie.Need-returns
+returns c =
+    let args = c .before .before .before .before .before .before .before .before .before .args in
+    let e = c .before .before .before .before .before .before .finding .given .1 in
+    (sym (ap findingNumber e), c .before .before .fill .ensures ∙ sym (ap (λ (x : Finding). foundOut x (args .t3) (now (args .out))) e))
+
+returns-2 : tie.Need-returns-2
+returns-2 c =
+    let args = c .before .before .before .before .before .before .before .before .args in
+    let e = c .before .before .before .before .before .enum-told .given .1 in
+    (sym (ap findingNumber e), c .before .before .fill2 .ensures ∙ sym (ap (λ (x : Finding). foundOut x (args .t3) (now (args .out))) e))
+
+returns-3 : tie.Need-returns-3
+returns-3 c =
+    let args = c .before .before .before .before .before .args in
+    let e = c .before .before .finding2 .given .1 in
+    (c .number-of .ensures ∙ sym (ap findingNumber e), sym (ap (λ (x : Finding). foundOut x (args .t3) (now (args .out))) e))
+
+pub tell-finding-spec : {M : Type 1} → statement M
+tell-finding-spec =
+    tie.close
+    (tie.spec
+    (λ c. search needs)
+    (λ c. search needs)
+    (λ c. search needs)
+    (λ c. search needs)
+    (λ c. search needs)
+    (λ c. search needs)
+    (λ c κs. search needs)
+    (λ c. search needs)
+    (λ c. search needs)
+    (λ c. search needs)
+    (λ c. search needs)
+    (λ c. search needs)
+    (λ c. search needs)
+    (λ c κs. search needs)
+    (λ c. search needs)
+    (λ c κs. search needs)
+    (λ c. search needs)
+    returns
+    (λ c. search needs)
+    returns-2
+    returns-3)

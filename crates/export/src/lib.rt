@@ -1,0 +1,202 @@
+// The register as C calls it: each function makes one call and gives the number of its answer. include/depot_register.h declares them.
+use book::parts::wide;
+use book::words::write_words;
+use fit::whole::is_fit;
+use order::record::MOST_DEPOTS;
+use order::record::exceeds;
+use register::answer::Answer;
+use register::answer::Finding;
+use register::answer::ReadAnswer;
+use register::answer::Refusal;
+use register::answer::WriteAnswer;
+use register::calls::read::read;
+use register::calls::refresh::refresh;
+use register::calls::setup::setup;
+use register::calls::take::take;
+use register::calls::tick::tick;
+use register::calls::write::write;
+ghost use mathlib.Core.Path.{_≡_};
+ghost use mathlib.Core.List.{[], _∷_};
+ghost use Rattle.order.specs.Loops.{pick};
+ghost use Rattle.book.specs.Layout.{countsOf};
+ghost use Rattle.fit.specs.Fit.{fit};
+ghost use Rattle.register.specs.Answers.{numberOf};
+ghost use Rattle.register.specs.Calls.{setUp, readRecord, readBook, newStamp, isCurrent, writeBook, tickBook, takeBook, refreshBook};
+ghost use Rattle.register.specs.Promises.{after};
+ghost use Rattle.register.specs.Table.{setupNumber, readNumber, writeNumber, tickNumber, takeNumber, refreshNumber};
+ghost use Rattle.export.specs.Numbers.{answerNumber, findingNumber, writeAnswerNumber, filled, readWords, foundOut, writtenOut, greaterNumber};
+
+// Document 01's number of a refusal.
+fn number_of(r: Refusal) -> u32
+    ensures { λ n. ⌜ n ≡ numberOf r ⌝ }
+{
+    match r {
+        Refusal::BadBook => 1,
+        Refusal::BadDepot => 2,
+        Refusal::BadShelf => 3,
+        Refusal::BadKey => 4,
+        Refusal::BadCrew => 5,
+        Refusal::SameDepot => 6,
+        Refusal::EmptyLink => 7,
+        Refusal::Wait => 8,
+        Refusal::LinkFull => 9,
+        Refusal::ClockAtEnd => 10,
+        Refusal::BadCounts => 11,
+    }
+}
+
+fn answer_number(a: Answer) -> u32
+    ensures { λ n. ⌜ n ≡ answerNumber a ⌝ }
+{
+    match a {
+        Answer::Done => 0,
+        Answer::Refused(r) => number_of(r),
+    }
+}
+
+#[no_mangle]
+pub extern "C" fn depot_setup(
+    book: &mut [u32],
+    depots: u32,
+    shelves: u32,
+    bearings: u32,
+    crews: u32,
+    homes: &[u32],
+) -> u32
+    ensures { λ r. ⌜ r ≡ setupNumber (now (book .entry)) (record { depots = depots; shelves = shelves; bearings = bearings; crews = crews }) (now (homes .entry)) ⌝ }
+    ensures { λ r. ⌜ now (book .exit) ≡ after (setupNumber (now (book .entry)) (record { depots = depots; shelves = shelves; bearings = bearings; crews = crews }) (now (homes .entry))) (setUp (record { depots = depots; shelves = shelves; bearings = bearings; crews = crews }) (now (homes .entry))) (now (book .entry)) ⌝ }
+{
+    let answer = setup(book, depots, shelves, bearings, crews, homes);
+    answer_number(answer)
+}
+
+#[no_mangle]
+pub extern "C" fn depot_tick(book: &mut [u32], depot: u32, shelf: u32) -> u32
+    ensures { λ r. ⌜ r ≡ tickNumber (now (book .entry)) depot shelf ⌝ }
+    ensures { λ r. ⌜ now (book .exit) ≡ after (tickNumber (now (book .entry)) depot shelf) (tickBook (now (book .entry)) depot shelf) (now (book .entry)) ⌝ }
+{
+    let answer = tick(book, depot, shelf);
+    answer_number(answer)
+}
+
+#[no_mangle]
+pub extern "C" fn depot_take(book: &mut [u32], depot: u32, shelf: u32, from: u32) -> u32
+    ensures { λ r. ⌜ r ≡ takeNumber (now (book .entry)) depot shelf from ⌝ }
+    ensures { λ r. ⌜ now (book .exit) ≡ after (takeNumber (now (book .entry)) depot shelf from) (takeBook (now (book .entry)) depot shelf from) (now (book .entry)) ⌝ }
+{
+    let answer = take(book, depot, shelf, from);
+    answer_number(answer)
+}
+
+#[no_mangle]
+pub extern "C" fn depot_refresh(book: &mut [u32], depot: u32, shelf: u32) -> u32
+    ensures { λ r. ⌜ r ≡ refreshNumber (now (book .entry)) depot shelf ⌝ }
+    ensures { λ r. ⌜ now (book .exit) ≡ after (refreshNumber (now (book .entry)) depot shelf) (refreshBook (now (book .entry)) depot shelf) (now (book .entry)) ⌝ }
+{
+    let answer = refresh(book, depot, shelf);
+    answer_number(answer)
+}
+
+// The words stand at the start of `out`, where it has room for them all.
+fn fill(out: &mut [u32], words: &[u32])
+    ensures { λ r. ⌜ now (out .exit) ≡ filled (now (words .entry)) (now (out .entry)) ⌝ }
+{
+    if words.len() <= out.len() {
+        write_words(out, 0, words);
+    }
+}
+
+// What a read found stands in `out`, and its number comes back.
+fn tell_finding(out: &mut [u32], finding: Finding, vector: [u32; 4]) -> u32
+    ensures { λ r. ⌜ r ≡ findingNumber finding ⌝ }
+    ensures { λ r. ⌜ now (out .exit) ≡ foundOut finding vector (now (out .entry)) ⌝ }
+{
+    match finding {
+        Finding::Value(v) => {
+            let words = [1, v, vector[0], vector[1], vector[2], vector[3]];
+            fill(out, &words);
+            0
+        }
+        Finding::Unwritten => {
+            let words = [0, 0, vector[0], vector[1], vector[2], vector[3]];
+            fill(out, &words);
+            0
+        }
+        Finding::Refused(r) => number_of(r),
+    }
+}
+
+// What a write answered stands in `out`, and its number comes back.
+fn tell_written(out: &mut [u32], answer: WriteAnswer) -> u32
+    ensures { λ r. ⌜ r ≡ writeAnswerNumber answer ⌝ }
+    ensures { λ r. ⌜ now (out .exit) ≡ writtenOut answer (now (out .entry)) ⌝ }
+{
+    match answer {
+        WriteAnswer::Current(stamp) => {
+            let words = [stamp, 1];
+            fill(out, &words);
+            0
+        }
+        WriteAnswer::Superseded(stamp) => {
+            let words = [stamp, 0];
+            fill(out, &words);
+            0
+        }
+        WriteAnswer::Refused(r) => number_of(r),
+    }
+}
+
+#[no_mangle]
+pub extern "C" fn depot_read(book: &mut [u32], crew: u32, bearing: u32, out: &mut [u32]) -> u32
+    ensures { λ r. ⌜ r ≡ readNumber (now (book .entry)) crew bearing ⌝ }
+    ensures { λ r. ⌜ now (book .exit) ≡ after (readNumber (now (book .entry)) crew bearing) (readBook (now (book .entry)) crew bearing) (now (book .entry)) ⌝ }
+    ensures { λ r. ⌜ now (out .exit) ≡ after (readNumber (now (book .entry)) crew bearing) (filled (readWords (countsOf (now (book .entry)) .depots) (readRecord (now (book .entry)) crew bearing)) (now (out .entry))) (now (out .entry)) ⌝ }
+{
+    let answer = read(book, crew, bearing);
+    let finding = answer.finding;
+    let vector = answer.vector;
+    tell_finding(out, finding, vector)
+}
+
+#[no_mangle]
+pub extern "C" fn depot_write(
+    book: &mut [u32],
+    crew: u32,
+    bearing: u32,
+    value: u32,
+    out: &mut [u32],
+) -> u32
+    ensures { λ r. ⌜ r ≡ writeNumber (now (book .entry)) crew bearing ⌝ }
+    ensures { λ r. ⌜ now (book .exit) ≡ after (writeNumber (now (book .entry)) crew bearing) (writeBook (now (book .entry)) crew bearing value) (now (book .entry)) ⌝ }
+    ensures { λ r. ⌜ now (out .exit) ≡ after (writeNumber (now (book .entry)) crew bearing) (filled (newStamp (now (book .entry)) crew bearing ∷ pick (isCurrent (now (book .entry)) crew bearing value) 1 0 ∷ []) (now (out .entry))) (now (out .entry)) ⌝ }
+{
+    let answer = write(book, crew, bearing, value);
+    tell_written(out, answer)
+}
+
+#[no_mangle]
+pub extern "C" fn depot_is_fit(book: &[u32]) -> u32
+    ensures { λ r. ⌜ r ≡ pick (fit (now (book .entry))) 1 0 ⌝ }
+{
+    if is_fit(book) {
+        return 1;
+    }
+    0
+}
+
+#[no_mangle]
+pub extern "C" fn depot_greater(a: &[u32], b: &[u32], depots: u32) -> u32
+    ensures { λ r. ⌜ r ≡ greaterNumber depots (now (a .entry)) (now (b .entry)) ⌝ }
+{
+    let n = wide(depots);
+    if n == 0 {
+        return 0;
+    }
+    if MOST_DEPOTS < n {
+        return 0;
+    }
+    if exceeds(b, a, n) {
+        return 1;
+    }
+    0
+}
