@@ -64,7 +64,10 @@ pub extern "C" fn depot_setup(
     homes: &[u32],
 ) -> u32
     ensures { λ r. ⌜ r ≡ setupNumber (now (book .entry)) (record { depots = depots; shelves = shelves; bearings = bearings; crews = crews }) (now (homes .entry)) ⌝ }
-    ensures { λ r. ⌜ now (book .exit) ≡ after (setupNumber (now (book .entry)) (record { depots = depots; shelves = shelves; bearings = bearings; crews = crews }) (now (homes .entry))) (setUp (record { depots = depots; shelves = shelves; bearings = bearings; crews = crews }) (now (homes .entry))) (now (book .entry)) ⌝ }
+    ensures { λ r. ⌜ now (book .exit)
+        ≡ after (setupNumber (now (book .entry)) (record { depots = depots; shelves = shelves; bearings = bearings; crews = crews })
+        (now (homes .entry))) (setUp (record { depots = depots; shelves = shelves; bearings = bearings; crews = crews }) (now (homes .entry)))
+        (now (book .entry)) ⌝ }
 {
     let answer = setup(book, depots, shelves, bearings, crews, homes);
     answer_number(answer)
@@ -150,7 +153,10 @@ fn tell_written(out: &mut [u32], answer: WriteAnswer) -> u32
 pub extern "C" fn depot_read(book: &mut [u32], crew: u32, bearing: u32, out: &mut [u32]) -> u32
     ensures { λ r. ⌜ r ≡ readNumber (now (book .entry)) crew bearing ⌝ }
     ensures { λ r. ⌜ now (book .exit) ≡ after (readNumber (now (book .entry)) crew bearing) (readBook (now (book .entry)) crew bearing) (now (book .entry)) ⌝ }
-    ensures { λ r. ⌜ now (out .exit) ≡ after (readNumber (now (book .entry)) crew bearing) (filled (readWords (countsOf (now (book .entry)) .depots) (readRecord (now (book .entry)) crew bearing)) (now (out .entry))) (now (out .entry)) ⌝ }
+    ensures { λ r. ⌜ now (out .exit)
+        ≡ after (readNumber (now (book .entry)) crew bearing)
+        (filled (readWords (countsOf (now (book .entry)) .depots) (readRecord (now (book .entry)) crew bearing)) (now (out .entry)))
+        (now (out .entry)) ⌝ }
 {
     let answer = read(book, crew, bearing);
     let finding = answer.finding;
@@ -168,7 +174,10 @@ pub extern "C" fn depot_write(
 ) -> u32
     ensures { λ r. ⌜ r ≡ writeNumber (now (book .entry)) crew bearing ⌝ }
     ensures { λ r. ⌜ now (book .exit) ≡ after (writeNumber (now (book .entry)) crew bearing) (writeBook (now (book .entry)) crew bearing value) (now (book .entry)) ⌝ }
-    ensures { λ r. ⌜ now (out .exit) ≡ after (writeNumber (now (book .entry)) crew bearing) (filled (newStamp (now (book .entry)) crew bearing ∷ pick (isCurrent (now (book .entry)) crew bearing value) 1 0 ∷ []) (now (out .entry))) (now (out .entry)) ⌝ }
+    ensures { λ r. ⌜ now (out .exit)
+        ≡ after (writeNumber (now (book .entry)) crew bearing)
+        (filled (newStamp (now (book .entry)) crew bearing ∷ pick (isCurrent (now (book .entry)) crew bearing value) 1 0 ∷ []) (now (out .entry)))
+        (now (out .entry)) ⌝ }
 {
     let answer = write(book, crew, bearing, value);
     tell_written(out, answer)

@@ -14,7 +14,8 @@ use Rattle.order.proofs.BoolLaws.{and-stop}
 use Rattle.book.specs.Words.{part}
 use Rattle.book.specs.Layout.{bookWords}
 use Rattle.book.proofs.WordsLaws.{part-at}
-use Rattle.fit.specs.Fit.{fit, between, inRange, othersInRange, countsFit, homeFit, crewFit, shelfFit, versionFit, linkFit, keptFit, storedFit, homesFit, crewsFit, shelvesFit, linksFit, storesFit, partsFit}
+use Rattle.fit.specs.Fit.{fit, between, inRange, othersInRange, countsFit, homeFit, crewFit, shelfFit, versionFit}
+use Rattle.fit.specs.Fit.{linkFit, keptFit, storedFit, homesFit, crewsFit, shelvesFit, linksFit, storesFit, partsFit}
 use Rattle.fit.specs.Fit.{carriedFit, copyFit, beatFit, messageFit}
 
 -- a list of any other length is not fit
@@ -35,7 +36,8 @@ busy =
     ++ (1 ∷ 0 ∷ 20 ∷ 0 ∷ 0 ∷ 0 ∷ 1 ∷ 0 ∷ 0 ∷ 0 ∷ []) ++ (2 ∷ 2 ∷ replicate 10068 0) ++ (0 ∷ 20 ∷ 0 ∷ 0 ∷ 0 ∷ 1 ∷ 0 ∷ 0 ∷ 0 ∷ replicate 5779 0)
 
 pub busy-fit : fit busy ≡ true
-unfolding busy fit between inRange othersInRange countsFit homeFit crewFit shelfFit versionFit carriedFit copyFit beatFit messageFit linkFit keptFit storedFit homesFit crewsFit shelvesFit linksFit storesFit partsFit every covered zeros part
+unfolding busy fit between inRange othersInRange countsFit homeFit crewFit shelfFit versionFit carriedFit copyFit beatFit
+    messageFit linkFit keptFit storedFit homesFit crewsFit shelvesFit linksFit storesFit partsFit every covered zeros part
 busy-fit = refl
 
 -- a register of one depot, shelf, bearing and crew, with nothing written: nine words count, and every other may hold anything

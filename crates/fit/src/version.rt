@@ -51,7 +51,8 @@ fn entry_if(x: usize, o: usize, entry: u32, other: u32) -> u32
 
 fn look(version: &[u32], n: usize) -> Found
     requires { ⌜ (length (now version) ≡ recordWords) × (n ≤ mostDepots) ⌝ }
-    ensures { λ r. ⌜ (r .highest ≡ highest n (vectorOf (now (version .entry)))) × (r .origin ≡ originOf (now (version .entry))) × (r .stamp ≡ entryOf n (originOf (now (version .entry))) (vectorOf (now (version .entry)))) ⌝ }
+    ensures { λ r. ⌜ (r .highest ≡ highest n (vectorOf (now (version .entry)))) × (r .origin ≡ originOf (now (version .entry)))
+        × (r .stamp ≡ entryOf n (originOf (now (version .entry))) (vectorOf (now (version .entry)))) ⌝ }
 {
     let origin = wide(version[ORIGIN]);
     let mut top: u32 = 0;

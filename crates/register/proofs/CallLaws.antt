@@ -102,7 +102,8 @@ good-asked n c k a b p q =
 pub bad-link : (n d s o : ℕ) {x : LinkCheck} (r : Refusal) → x ≡ linkOfNumber n d s o → x ≡ LinkCheck.Bad r → (eqb n 0 ≡ false) × (refusalOf n ≡ r)
 unfolding linkOfNumber
 bad-link n d s o r p q =
-    let h = chose-second (LinkCheck.Good (record { 0 = d }) (record { 0 = s }) (record { 0 = o })) (LinkCheck.Bad (refusalOf n)) (LinkCheck.Bad r) (λ e. let z : _≡_ {A = ℕ} 0 1 = cc in omega arith) (sym p ∙ q) in
+    let h = chose-second (LinkCheck.Good (record { 0 = d }) (record { 0 = s }) (record { 0 = o })) (LinkCheck.Bad (refusalOf n)) (LinkCheck.Bad r)
+    (λ e. let z : _≡_ {A = ℕ} 0 1 = cc in omega arith) (sym p ∙ q) in
     let e = h .1 in
     (h .0, cc)
 
@@ -111,6 +112,7 @@ pub good-link :
     (n ≡ 0) × (record { 0 = d } ≡ a) × (record { 0 = s } ≡ b) × (record { 0 = o } ≡ c)
 unfolding linkOfNumber
 good-link n d s o a b c p q =
-    let h = chose-first (LinkCheck.Good (record { 0 = d }) (record { 0 = s }) (record { 0 = o })) (LinkCheck.Bad (refusalOf n)) (LinkCheck.Good a b c) (λ e. let z : _≡_ {A = ℕ} 0 1 = cc in omega arith) (sym p ∙ q) in
+    let h = chose-first (LinkCheck.Good (record { 0 = d }) (record { 0 = s }) (record { 0 = o })) (LinkCheck.Bad (refusalOf n)) (LinkCheck.Good a b c)
+    (λ e. let z : _≡_ {A = ℕ} 0 1 = cc in omega arith) (sym p ∙ q) in
     let e = h .1 in
     (eqb-true n 0 (h .0), cc, cc, cc)

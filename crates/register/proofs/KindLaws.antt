@@ -16,7 +16,9 @@ use Rattle.book.specs.declared.numbers.BearingCheck.{BearingCheck}
 use Rattle.book.specs.declared.numbers.Crew.{Crew}
 use Rattle.book.specs.declared.numbers.CrewCheck.{CrewCheck}
 
-pub good-depot : {number count : ℕ} {r : DepotCheck} (x : Depot) → r ≡ pick (ltb number count) (DepotCheck.Good (record { 0 = number })) DepotCheck.Bad → r ≡ DepotCheck.Good x → (number < count) × (record { 0 = number } ≡ x)
+pub good-depot : {number count : ℕ} {r : DepotCheck} (x : Depot)
+    → r ≡ pick (ltb number count) (DepotCheck.Good (record { 0 = number })) DepotCheck.Bad → r ≡ DepotCheck.Good x
+    → (number < count) × (record { 0 = number } ≡ x)
 good-depot {number} {count} x p q =
     let h = chose-first (DepotCheck.Good (record { 0 = number })) DepotCheck.Bad (DepotCheck.Good x) (λ e. let z : _≡_ {A = ℕ} 0 1 = cc in omega arith) (sym p ∙ q) in
     let e = h .1 in
@@ -27,7 +29,9 @@ bad-depot {number} {count} p q =
     let h = chose-second (DepotCheck.Good (record { 0 = number })) DepotCheck.Bad DepotCheck.Bad (λ e. let z : _≡_ {A = ℕ} 0 1 = cc in omega arith) (sym p ∙ q) in
     ltb-false _ _ (h .0)
 
-pub good-shelf : {number count : ℕ} {r : ShelfCheck} (x : Shelf) → r ≡ pick (ltb number count) (ShelfCheck.Good (record { 0 = number })) ShelfCheck.Bad → r ≡ ShelfCheck.Good x → (number < count) × (record { 0 = number } ≡ x)
+pub good-shelf : {number count : ℕ} {r : ShelfCheck} (x : Shelf)
+    → r ≡ pick (ltb number count) (ShelfCheck.Good (record { 0 = number })) ShelfCheck.Bad → r ≡ ShelfCheck.Good x
+    → (number < count) × (record { 0 = number } ≡ x)
 good-shelf {number} {count} x p q =
     let h = chose-first (ShelfCheck.Good (record { 0 = number })) ShelfCheck.Bad (ShelfCheck.Good x) (λ e. let z : _≡_ {A = ℕ} 0 1 = cc in omega arith) (sym p ∙ q) in
     let e = h .1 in
@@ -38,7 +42,9 @@ bad-shelf {number} {count} p q =
     let h = chose-second (ShelfCheck.Good (record { 0 = number })) ShelfCheck.Bad ShelfCheck.Bad (λ e. let z : _≡_ {A = ℕ} 0 1 = cc in omega arith) (sym p ∙ q) in
     ltb-false _ _ (h .0)
 
-pub good-bearing : {number count : ℕ} {r : BearingCheck} (x : Bearing) → r ≡ pick (ltb number count) (BearingCheck.Good (record { 0 = number })) BearingCheck.Bad → r ≡ BearingCheck.Good x → (number < count) × (record { 0 = number } ≡ x)
+pub good-bearing : {number count : ℕ} {r : BearingCheck} (x : Bearing)
+    → r ≡ pick (ltb number count) (BearingCheck.Good (record { 0 = number })) BearingCheck.Bad → r ≡ BearingCheck.Good x
+    → (number < count) × (record { 0 = number } ≡ x)
 good-bearing {number} {count} x p q =
     let h = chose-first (BearingCheck.Good (record { 0 = number })) BearingCheck.Bad (BearingCheck.Good x) (λ e. let z : _≡_ {A = ℕ} 0 1 = cc in omega arith) (sym p ∙ q) in
     let e = h .1 in
@@ -49,7 +55,8 @@ bad-bearing {number} {count} p q =
     let h = chose-second (BearingCheck.Good (record { 0 = number })) BearingCheck.Bad BearingCheck.Bad (λ e. let z : _≡_ {A = ℕ} 0 1 = cc in omega arith) (sym p ∙ q) in
     ltb-false _ _ (h .0)
 
-pub good-crew : {number count : ℕ} {r : CrewCheck} (x : Crew) → r ≡ pick (ltb number count) (CrewCheck.Good (record { 0 = number })) CrewCheck.Bad → r ≡ CrewCheck.Good x → (number < count) × (record { 0 = number } ≡ x)
+pub good-crew : {number count : ℕ} {r : CrewCheck} (x : Crew) → r ≡ pick (ltb number count) (CrewCheck.Good (record { 0 = number })) CrewCheck.Bad
+    → r ≡ CrewCheck.Good x → (number < count) × (record { 0 = number } ≡ x)
 good-crew {number} {count} x p q =
     let h = chose-first (CrewCheck.Good (record { 0 = number })) CrewCheck.Bad (CrewCheck.Good x) (λ e. let z : _≡_ {A = ℕ} 0 1 = cc in omega arith) (sym p ∙ q) in
     let e = h .1 in

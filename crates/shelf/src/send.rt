@@ -57,7 +57,8 @@ pub fn is_roomy(book: &[u32], n: usize, d: Depot, s: Shelf) -> bool
 
 // The message goes on the link to a depot, unless that depot is this one.
 fn send_to(book: &mut [u32], d: Depot, s: Shelf, message: &[u32], to: Depot)
-    requires { ⌜ (length (now book) ≡ bookWords) × (length (now message) ≡ slotWords) × (d .0 < mostDepots) × (s .0 < mostShelves) × (to .0 < mostDepots) × ((to .0 ≡ d .0 → ⊥) → held (now book) (linkOf (s .0) (d .0) (to .0)) < linkRoom) ⌝ }
+    requires { ⌜ (length (now book) ≡ bookWords) × (length (now message) ≡ slotWords) × (d .0 < mostDepots) × (s .0 < mostShelves)
+        × (to .0 < mostDepots) × ((to .0 ≡ d .0 → ⊥) → held (now book) (linkOf (s .0) (d .0) (to .0)) < linkRoom) ⌝ }
     ensures { λ r. ⌜ now (book .exit) ≡ sentTo (d .0) (s .0) (now (message .entry)) (to .0) (now (book .entry)) ⌝ }
 {
     if to.index() == d.index() {
@@ -117,7 +118,9 @@ fn move_on(book: &mut [u32], q: Link, count: usize, done: usize, beat: bool)
 
 // The first untaken message from a depot is taken: the stamp seen becomes its stamp.
 pub fn take_one(book: &mut [u32], d: Depot, s: Shelf, from: Depot)
-    requires { ⌜ (length (now book) ≡ bookWords) × (d .0 < mostDepots) × (s .0 < mostShelves) × (from .0 < mostDepots) × (taken (now book) (linkOf (s .0) (from .0) (d .0)) < held (now book) (linkOf (s .0) (from .0) (d .0))) × (held (now book) (linkOf (s .0) (from .0) (d .0)) ≤ linkRoom) ⌝ }
+    requires { ⌜ (length (now book) ≡ bookWords) × (d .0 < mostDepots) × (s .0 < mostShelves) × (from .0 < mostDepots)
+        × (taken (now book) (linkOf (s .0) (from .0) (d .0)) < held (now book) (linkOf (s .0) (from .0) (d .0)))
+        × (held (now book) (linkOf (s .0) (from .0) (d .0)) ≤ linkRoom) ⌝ }
     ensures { λ r. ⌜ now (book .exit) ≡ took (d .0) (s .0) (from .0) (now (book .entry)) ⌝ }
 {
     let q = Link::between(s, from, d);

@@ -88,7 +88,8 @@ fn show_slot(
     i: usize,
     kept: usize,
 ) -> usize
-    requires { ⌜ (length (now book) ≡ bookWords) × (n ≤ mostDepots) × (d .0 < mostDepots) × (s .0 < mostShelves) × (q .0 < links) × (i < linkRoom) × (kept ≤ i) × (bearingOf (recordOf (slot (now book) (q .0) i)) < bearingRoom) ⌝ }
+    requires { ⌜ (length (now book) ≡ bookWords) × (n ≤ mostDepots) × (d .0 < mostDepots) × (s .0 < mostShelves) × (q .0 < links) × (i < linkRoom)
+        × (kept ≤ i) × (bearingOf (recordOf (slot (now book) (q .0) i)) < bearingRoom) ⌝ }
     ensures { λ r. ⌜ sweepOne n (d .0) (s .0) (q .0) i (record { words = now (book .entry); kept = kept }) ≡ record { words = now (book .exit); kept = r } ⌝ }
 {
     if is_slot_covered(book, n, d, s, q, i) {
@@ -101,7 +102,8 @@ fn show_slot(
 
 // The first `count` copies of a link, oldest first, each shown or moved down. Answers how many stay on the link.
 fn sweep(book: &mut [u32], n: usize, d: Depot, s: Shelf, q: Link, count: usize) -> usize
-    requires { ⌜ (length (now book) ≡ bookWords) × (n ≤ mostDepots) × (d .0 < mostDepots) × (s .0 < mostShelves) × (q .0 < links) × (count ≤ linkRoom) × ((i : ℕ) → i < count → bearingOf (recordOf (slot (now book) (q .0) i)) < bearingRoom) ⌝ }
+    requires { ⌜ (length (now book) ≡ bookWords) × (n ≤ mostDepots) × (d .0 < mostDepots) × (s .0 < mostShelves) × (q .0 < links) × (count ≤ linkRoom)
+        × ((i : ℕ) → i < count → bearingOf (recordOf (slot (now book) (q .0) i)) < bearingRoom) ⌝ }
     ensures { λ r. ⌜ swept n (d .0) (s .0) (q .0) count (now (book .entry)) ≡ record { words = now (book .exit); kept = r } ⌝ }
 {
     let mut kept = 0;
@@ -137,7 +139,8 @@ fn show_link(book: &mut [u32], n: usize, d: Depot, s: Shelf, from: Depot)
 
 // The incoming link from a depot is shown, unless that depot is this one.
 fn show_from(book: &mut [u32], n: usize, d: Depot, s: Shelf, from: Depot)
-    requires { ⌜ (length (now book) ≡ bookWords) × (n ≤ mostDepots) × (d .0 < mostDepots) × (s .0 < mostShelves) × (from .0 < mostDepots) × ((from .0 ≡ d .0 → ⊥) → Sound (now book) (linkOf (s .0) (from .0) (d .0))) ⌝ }
+    requires { ⌜ (length (now book) ≡ bookWords) × (n ≤ mostDepots) × (d .0 < mostDepots) × (s .0 < mostShelves) × (from .0 < mostDepots)
+        × ((from .0 ≡ d .0 → ⊥) → Sound (now book) (linkOf (s .0) (from .0) (d .0))) ⌝ }
     ensures { λ r. ⌜ now (book .exit) ≡ pick (eqb (from .0) (d .0)) (now (book .entry)) (shownLink n (d .0) (s .0) (from .0) (now (book .entry))) ⌝ }
 {
     if from.index() == d.index() {

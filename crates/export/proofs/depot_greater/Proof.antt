@@ -25,13 +25,17 @@ returns-3 : tie.Need-returns-3
 returns-3 c =
     let args = c .before .before .before .before .before .before .before .args in
     let e = c .before .before .before .before .wide .ensures in
-    sym (pick-true 1 0 (c .if3 .taken)) ∙ greater-by _ (now (args .a)) (now (args .b)) (c .before .before .before .if1 .left) (c .before .before .if2 .left) (c .before .exceeds .ensures) ∙ ap (λ (x : ℕ). greaterNumber x (now (args .a)) (now (args .b))) e
+    sym (pick-true 1 0 (c .if3 .taken))
+    ∙ greater-by _ (now (args .a)) (now (args .b)) (c .before .before .before .if1 .left) (c .before .before .if2 .left) (c .before .exceeds .ensures)
+    ∙ ap (λ (x : ℕ). greaterNumber x (now (args .a)) (now (args .b))) e
 
 returns-4 : tie.Need-returns-4
 returns-4 c =
     let args = c .before .before .before .before .before .before .before .args in
     let e = c .before .before .before .before .wide .ensures in
-    sym (pick-false 1 0 (c .if3 .left)) ∙ greater-by _ (now (args .a)) (now (args .b)) (c .before .before .before .if1 .left) (c .before .before .if2 .left) (c .before .exceeds .ensures) ∙ ap (λ (x : ℕ). greaterNumber x (now (args .a)) (now (args .b))) e
+    sym (pick-false 1 0 (c .if3 .left))
+    ∙ greater-by _ (now (args .a)) (now (args .b)) (c .before .before .before .if1 .left) (c .before .before .if2 .left) (c .before .exceeds .ensures)
+    ∙ ap (λ (x : ℕ). greaterNumber x (now (args .a)) (now (args .b))) e
 
 pub depot-greater-spec : {M : Type 1} → statement M
 depot-greater-spec =

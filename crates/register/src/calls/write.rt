@@ -82,7 +82,8 @@ fn message_of(v: Version) -> [u32; 10]
 // The record replaces the stored version of its bearing if it is greater; answers whether it is.
 fn keep_record(book: &mut [u32], n: usize, d: Depot, k: Bearing, version: &[u32]) -> bool
     requires { ⌜ (length (now book) ≡ bookWords) × (n ≤ mostDepots) × (d .0 < mostDepots) × (k .0 < bearingRoom) × (length (now version) ≡ recordWords) × (bearingOf (now version) ≡ k .0) ⌝ }
-    ensures { λ r. ⌜ (r ≡ above n (rankOf (now (version .entry))) (rankOf (stored (now (book .entry)) (d .0) (k .0)))) × (now (book .exit) ≡ keptIn n (d .0) (now (version .entry)) (now (book .entry))) ⌝ }
+    ensures { λ r. ⌜ (r ≡ above n (rankOf (now (version .entry))) (rankOf (stored (now (book .entry)) (d .0) (k .0))))
+        × (now (book .exit) ≡ keptIn n (d .0) (now (version .entry)) (now (book .entry))) ⌝ }
 {
     let to = stored_at(d, k);
     let end = to + RECORD_WORDS;
@@ -153,7 +154,8 @@ fn write_version(
     value: u32,
 ) -> WriteAnswer
     requires { ⌜ MayWrite (now book) (c .0) (k .0) n (d .0) (s .0) stamp ⌝ }
-    ensures { λ r. ⌜ (r ≡ writes (newStamp (now (book .entry)) (c .0) (k .0)) (isCurrent (now (book .entry)) (c .0) (k .0) value)) × (now (book .exit) ≡ writeBook (now (book .entry)) (c .0) (k .0) value) ⌝ }
+    ensures { λ r. ⌜ (r ≡ writes (newStamp (now (book .entry)) (c .0) (k .0)) (isCurrent (now (book .entry)) (c .0) (k .0) value))
+        × (now (book .exit) ≡ writeBook (now (book .entry)) (c .0) (k .0) value) ⌝ }
 {
     let message = made_copy(book, n, c, k, d, stamp, value);
     stamp_crew(book, n, c, d, s, stamp);

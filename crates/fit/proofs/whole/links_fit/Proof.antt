@@ -29,12 +29,23 @@ returns : tie.Need-returns Inv-loop μ-loop
 unfolding linksFit
 returns c =
     let args = c .before .before .before .before .before .before .args in
-    sym (every-stop _ _ _ (c .before .before .before .loop-test .taken) (test-failed (c .before .links-of-fit .ensures ∙ ap (λ (x : ℕ). every (args .n .depots) (λ from. every (args .n .depots) (λ to. eqb from to || linkFit (args .n) (now (args .book)) x from (linkOf x from to)))) (c .before .before .nth .ensures)) (c .if1 .taken)))
+    sym (every-stop _ _ _ (c .before .before .before .loop-test .taken)
+    (test-failed (c .before .links-of-fit .ensures
+    ∙ ap (λ (x : ℕ). every (args .n .depots)
+    (λ from. every (args .n .depots) (λ to. eqb from to || linkFit (args .n) (now (args .book)) x from (linkOf x from to))))
+    (c .before .before .nth .ensures)) (c .if1 .taken)))
 
 loop-again : tie.Need-loop-again Inv-loop μ-loop
 loop-again c =
-    let args = c .before .before .before .before .before .before .args in
-    (search needs, every-more _ _ (c .before .before .before .before .loop .inv .1) (test-passed (c .before .links-of-fit .ensures ∙ ap (λ (x : ℕ). every (args .n .depots) (λ from. every (args .n .depots) (λ to. eqb from to || linkFit (args .n) (now (args .book)) x from (linkOf x from to)))) (c .before .before .nth .ensures)) (c .if1 .left)), refl)
+    let args = c .before .before .before .before .before .before .args in (
+      search needs,
+      every-more _ _ (c .before .before .before .before .loop .inv .1)
+          (test-passed (c .before .links-of-fit .ensures
+          ∙ ap (λ (x : ℕ). every (args .n .depots)
+          (λ from. every (args .n .depots) (λ to. eqb from to || linkFit (args .n) (now (args .book)) x from (linkOf x from to))))
+          (c .before .before .nth .ensures)) (c .if1 .left)),
+      refl,
+    )
 
 returns-2 : tie.Need-returns-2 Inv-loop μ-loop
 unfolding linksFit

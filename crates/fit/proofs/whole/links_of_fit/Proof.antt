@@ -28,12 +28,21 @@ loop-holds c = (search needs, every-none _, refl)
 returns : tie.Need-returns Inv-loop μ-loop
 returns c =
     let args = c .before .before .before .before .before .before .args in
-    sym (every-stop _ _ _ (c .before .before .before .loop-test .taken) (test-failed (c .before .links-out-fit .ensures ∙ ap (λ (x : ℕ). every (args .n .depots) (λ to. eqb x to || linkFit (args .n) (now (args .book)) (args .s .0) x (linkOf (args .s .0) x to))) (c .before .before .nth .ensures)) (c .if1 .taken)))
+    sym (every-stop _ _ _ (c .before .before .before .loop-test .taken)
+    (test-failed (c .before .links-out-fit .ensures
+    ∙ ap (λ (x : ℕ). every (args .n .depots) (λ to. eqb x to || linkFit (args .n) (now (args .book)) (args .s .0) x (linkOf (args .s .0) x to)))
+    (c .before .before .nth .ensures)) (c .if1 .taken)))
 
 loop-again : tie.Need-loop-again Inv-loop μ-loop
 loop-again c =
-    let args = c .before .before .before .before .before .before .args in
-    (search needs, every-more _ _ (c .before .before .before .before .loop .inv .1) (test-passed (c .before .links-out-fit .ensures ∙ ap (λ (x : ℕ). every (args .n .depots) (λ to. eqb x to || linkFit (args .n) (now (args .book)) (args .s .0) x (linkOf (args .s .0) x to))) (c .before .before .nth .ensures)) (c .if1 .left)), refl)
+    let args = c .before .before .before .before .before .before .args in (
+      search needs,
+      every-more _ _ (c .before .before .before .before .loop .inv .1)
+          (test-passed (c .before .links-out-fit .ensures
+          ∙ ap (λ (x : ℕ). every (args .n .depots) (λ to. eqb x to || linkFit (args .n) (now (args .book)) (args .s .0) x (linkOf (args .s .0) x to)))
+          (c .before .before .nth .ensures)) (c .if1 .left)),
+      refl,
+    )
 
 returns-2 : tie.Need-returns-2 Inv-loop μ-loop
 returns-2 c = sym (rw (le-antisymm (c .before .loop .inv .0) (c .loop-test .left)) at (c .before .loop .inv .1))

@@ -23,7 +23,9 @@ unfolding partsFit
 returns-3 c =
     let at2 = c .before .before in
     let at1 = at2 .before .before in
-    sym (and-next _ (test-passed (at1 .before .homes-fit .ensures) (at1 .if1 .left)) ∙ and-next _ (test-passed (at2 .before .crews-fit .ensures) (at2 .if2 .left)) ∙ and-stop _ (test-failed (c .before .shelves-fit .ensures) (c .if3 .taken)))
+    sym (and-next _ (test-passed (at1 .before .homes-fit .ensures) (at1 .if1 .left))
+    ∙ and-next _ (test-passed (at2 .before .crews-fit .ensures) (at2 .if2 .left))
+    ∙ and-stop _ (test-failed (c .before .shelves-fit .ensures) (c .if3 .taken)))
 
 returns-4 : tie.Need-returns-4
 unfolding partsFit
@@ -31,7 +33,10 @@ returns-4 c =
     let at3 = c .before .before in
     let at2 = at3 .before .before in
     let at1 = at2 .before .before in
-    sym (and-next _ (test-passed (at1 .before .homes-fit .ensures) (at1 .if1 .left)) ∙ and-next _ (test-passed (at2 .before .crews-fit .ensures) (at2 .if2 .left)) ∙ and-next _ (test-passed (at3 .before .shelves-fit .ensures) (at3 .if3 .left)) ∙ and-stop _ (test-failed (c .before .links-fit .ensures) (c .if4 .taken)))
+    sym (and-next _ (test-passed (at1 .before .homes-fit .ensures) (at1 .if1 .left))
+    ∙ and-next _ (test-passed (at2 .before .crews-fit .ensures) (at2 .if2 .left))
+    ∙ and-next _ (test-passed (at3 .before .shelves-fit .ensures) (at3 .if3 .left))
+    ∙ and-stop _ (test-failed (c .before .links-fit .ensures) (c .if4 .taken)))
 
 returns-5 : tie.Need-returns-5
 unfolding partsFit
@@ -40,7 +45,11 @@ returns-5 c =
     let at3 = at4 .before .before in
     let at2 = at3 .before .before in
     let at1 = at2 .before .before in
-    c .stores-fit .ensures ∙ sym (and-next _ (test-passed (at1 .before .homes-fit .ensures) (at1 .if1 .left)) ∙ and-next _ (test-passed (at2 .before .crews-fit .ensures) (at2 .if2 .left)) ∙ and-next _ (test-passed (at3 .before .shelves-fit .ensures) (at3 .if3 .left)) ∙ and-next _ (test-passed (at4 .before .links-fit .ensures) (at4 .if4 .left)))
+    c .stores-fit .ensures
+    ∙ sym (and-next _ (test-passed (at1 .before .homes-fit .ensures) (at1 .if1 .left))
+    ∙ and-next _ (test-passed (at2 .before .crews-fit .ensures) (at2 .if2 .left))
+    ∙ and-next _ (test-passed (at3 .before .shelves-fit .ensures) (at3 .if3 .left))
+    ∙ and-next _ (test-passed (at4 .before .links-fit .ensures) (at4 .if4 .left)))
 
 pub parts-fit-spec : {M : Type 1} → statement M
 parts-fit-spec =

@@ -26,12 +26,19 @@ returns : tie.Need-returns Inv-loop μ-loop
 unfolding storesFit
 returns c =
     let args = c .before .before .before .before .before .before .args in
-    sym (every-stop _ _ _ (c .before .before .before .loop-test .taken) (test-failed (c .before .stores-of-fit .ensures ∙ ap (λ (x : ℕ). every (args .n .bearings) (storedFit (args .n) (now (args .book)) x)) (c .before .before .nth .ensures)) (c .if1 .taken)))
+    sym (every-stop _ _ _ (c .before .before .before .loop-test .taken)
+    (test-failed (c .before .stores-of-fit .ensures
+    ∙ ap (λ (x : ℕ). every (args .n .bearings) (storedFit (args .n) (now (args .book)) x)) (c .before .before .nth .ensures)) (c .if1 .taken)))
 
 loop-again : tie.Need-loop-again Inv-loop μ-loop
 loop-again c =
-    let args = c .before .before .before .before .before .before .args in
-    (search needs, every-more _ _ (c .before .before .before .before .loop .inv .1) (test-passed (c .before .stores-of-fit .ensures ∙ ap (λ (x : ℕ). every (args .n .bearings) (storedFit (args .n) (now (args .book)) x)) (c .before .before .nth .ensures)) (c .if1 .left)), refl)
+    let args = c .before .before .before .before .before .before .args in (
+      search needs,
+      every-more _ _ (c .before .before .before .before .loop .inv .1)
+          (test-passed (c .before .stores-of-fit .ensures
+          ∙ ap (λ (x : ℕ). every (args .n .bearings) (storedFit (args .n) (now (args .book)) x)) (c .before .before .nth .ensures)) (c .if1 .left)),
+      refl,
+    )
 
 returns-2 : tie.Need-returns-2 Inv-loop μ-loop
 unfolding storesFit

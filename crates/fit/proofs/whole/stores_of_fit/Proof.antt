@@ -25,12 +25,19 @@ loop-holds c = (search needs, every-none _, refl)
 returns : tie.Need-returns Inv-loop μ-loop
 returns c =
     let args = c .before .before .before .before .before .before .args in
-    sym (every-stop _ _ _ (c .before .before .before .loop-test .taken) (test-failed (c .before .stored-fits .ensures ∙ ap (λ (x : ℕ). storedFit (args .n) (now (args .book)) (args .d .0) x) (c .before .before .nth .ensures)) (c .if1 .taken)))
+    sym (every-stop _ _ _ (c .before .before .before .loop-test .taken)
+    (test-failed (c .before .stored-fits .ensures
+    ∙ ap (λ (x : ℕ). storedFit (args .n) (now (args .book)) (args .d .0) x) (c .before .before .nth .ensures)) (c .if1 .taken)))
 
 loop-again : tie.Need-loop-again Inv-loop μ-loop
 loop-again c =
-    let args = c .before .before .before .before .before .before .args in
-    (search needs, every-more _ _ (c .before .before .before .before .loop .inv .1) (test-passed (c .before .stored-fits .ensures ∙ ap (λ (x : ℕ). storedFit (args .n) (now (args .book)) (args .d .0) x) (c .before .before .nth .ensures)) (c .if1 .left)), refl)
+    let args = c .before .before .before .before .before .before .args in (
+      search needs,
+      every-more _ _ (c .before .before .before .before .loop .inv .1)
+          (test-passed (c .before .stored-fits .ensures
+          ∙ ap (λ (x : ℕ). storedFit (args .n) (now (args .book)) (args .d .0) x) (c .before .before .nth .ensures)) (c .if1 .left)),
+      refl,
+    )
 
 returns-2 : tie.Need-returns-2 Inv-loop μ-loop
 returns-2 c = sym (rw (le-antisymm (c .before .loop .inv .0) (c .loop-test .left)) at (c .before .loop .inv .1))

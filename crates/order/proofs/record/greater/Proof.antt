@@ -11,7 +11,9 @@ use Rattle.order.proofs.record.greater.Statement.{statement}
 use Rattle.order.proofs.record.greater.Tie as tie
 
 -- what the comparison said, of the depots as they were handed in
-said : (c : tie.After-exceeds) → c .exceeds .result ≡ above (Prim.Native.Nat.min (c .before .before .before .before .args .depots) 4) (rankIn (now (c .before .before .before .before .args .b))) (rankIn (now (c .before .before .before .before .args .a)))
+said : (c : tie.After-exceeds)
+    → c .exceeds .result ≡ above (Prim.Native.Nat.min (c .before .before .before .before .args .depots) 4)
+    (rankIn (now (c .before .before .before .before .args .b))) (rankIn (now (c .before .before .before .before .args .a)))
 said c =
     let args = c .before .before .before .before .args in
     c .exceeds .ensures ∙ ap (λ (n : ℕ). above n (rankIn (now (args .b))) (rankIn (now (args .a)))) (c .before .entries-for .ensures)

@@ -22,7 +22,8 @@ abbrev μ-loop : tie.MeasureT-loop
 μ-loop a b n x₀ x = n - x
 
 -- after the loop every entry has been passed
-all : (c : tie.After-loop Inv-loop μ-loop) → (y : ℕ) → y < c .before .before .before .before .args .n → vectorOf (now (c .before .before .before .before .args .a)) y ≡ vectorOf (now (c .before .before .before .before .args .b)) y
+all : (c : tie.After-loop Inv-loop μ-loop) → (y : ℕ) → y < c .before .before .before .before .args .n
+    → vectorOf (now (c .before .before .before .before .args .a)) y ≡ vectorOf (now (c .before .before .before .before .args .b)) y
 all c y l = c .before .loop .inv .1 y (lt-of-lt-of-le l (c .loop-test .left))
 
 loop-holds : tie.Need-loop-holds Inv-loop μ-loop

@@ -20,8 +20,11 @@ loop-holds c = (search needs, lowest-none _ _ _)
 
 loop-again : tie.Need-loop-again Inv-loop μ-loop
 loop-again c =
-    let loop = c .before .before .before .before .before .before .loop in
-    (search needs, lowest-more _ _ _ _ (loop .inv .1) (c .smaller .ensures) (c .before .before .before .seen-at .ensures) (c .before .before .before .before .nth .ensures) (c .before .before .index .ensures))
+    let loop = c .before .before .before .before .before .before .loop in (
+      search needs,
+      lowest-more _ _ _ _ (loop .inv .1) (c .smaller .ensures) (c .before .before .before .seen-at .ensures)
+          (c .before .before .before .before .nth .ensures) (c .before .before .index .ensures),
+    )
 
 returns : tie.Need-returns Inv-loop μ-loop
 returns c = rw (le-antisymm (c .before .loop .inv .0) (c .loop-test .left)) at (c .before .loop .inv .1)

@@ -43,7 +43,8 @@ returns-2 c =
     let write = c .before .before .before .before in
     let counted = write .before .before .before in
     let link = counted .before .before in
-    send-done _ _ _ _ _ (other (link .before)) (link .between .ensures) (counted .held-of .ensures) (write .before .slot-at .ensures) (write .write-words .ensures) (c .held-at .ensures) (c .before .word .ensures)
+    send-done _ _ _ _ _ (other (link .before)) (link .between .ensures) (counted .held-of .ensures) (write .before .slot-at .ensures)
+    (write .write-words .ensures) (c .held-at .ensures) (c .before .word .ensures)
 
 pub send-to-spec : {M : Type 1} → statement M
 send-to-spec =

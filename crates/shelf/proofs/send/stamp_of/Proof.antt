@@ -9,7 +9,8 @@ returns : tie.Need-returns
 returns c = beat-stamp _ _ _ _ (c .before .before .before .slot-at .ensures) (c .before .before .is-beat .ensures) (c .before .if1 .taken)
 
 returns-2 : tie.Need-returns-2
-returns-2 c = copy-stamp _ _ _ (c .before .before .before .before .before .before .pre .3) (c .before .before .before .before .slot-at .ensures) (c .before .index .ensures) (c .before .before .before .is-beat .ensures) (c .before .before .if1 .left)
+returns-2 c = copy-stamp _ _ _ (c .before .before .before .before .before .before .pre .3) (c .before .before .before .before .slot-at .ensures)
+    (c .before .index .ensures) (c .before .before .before .is-beat .ensures) (c .before .before .if1 .left)
 
 pub stamp-of-spec : {M : Type 1} → statement M
 stamp-of-spec =

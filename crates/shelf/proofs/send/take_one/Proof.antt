@@ -35,7 +35,8 @@ returns c =
     let beat = stamp .before .before in
     let heads = beat .before .before in
     let link = heads .before .before .before .before in
-    take-done _ _ _ _ (link .between .ensures) (heads .before .before .held-of .ensures) (heads .taken-of .ensures) (beat .is-beat .ensures) (stamp .stamp-of .ensures) (seen .set-seen .ensures) (c .before .before .move-on .ensures)
+    take-done _ _ _ _ (link .between .ensures) (heads .before .before .held-of .ensures) (heads .taken-of .ensures) (beat .is-beat .ensures)
+    (stamp .stamp-of .ensures) (seen .set-seen .ensures) (c .before .before .move-on .ensures)
 
 pub take-one-spec : {M : Type 1} → statement M
 take-one-spec =

@@ -15,7 +15,8 @@ returns c =
     let at1 = c .before .before .before .before in
     let stored-at = at1 .before .before .before .before .before .stored-at in
     let pre = at1 .before .before .before .before .before .before .before .pre in
-    keep-greater _ _ _ _ _ (compare-lent _ _ _ _ _ (stored-at .ensures) (pre .5) (at1 .before .is-above .ensures)) (at1 .if1 .taken) (stored-at .ensures) (pre .5) (c .before .before .copy-words .ensures)
+    keep-greater _ _ _ _ _ (compare-lent _ _ _ _ _ (stored-at .ensures) (pre .5) (at1 .before .is-above .ensures)) (at1 .if1 .taken)
+    (stored-at .ensures) (pre .5) (c .before .before .copy-words .ensures)
 
 returns-2 : tie.Need-returns-2
 returns-2 c =

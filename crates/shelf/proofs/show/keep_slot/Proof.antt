@@ -23,8 +23,15 @@ keep-requires c κs =
     let at = c .before .before .before .before .slot-at in
     let args = c .before .before .before .before .before .before .args in
     let read = bearing-place (args .q .0) (args .i) (now (args .book)) (at .ensures) in
-    let same = ap bearingOf (record-place (args .q .0) (args .i) (now (args .book)) (at .ensures)) in
-    (search needs, search needs, search needs, omega (arith, read, c .before .before .wide .ensures, c .before .nth .ensures), search needs, same ∙ sym read ∙ sym (c .before .before .wide .ensures) ∙ sym (c .before .nth .ensures))
+    let same = ap bearingOf (record-place (args .q .0) (args .i) (now (args .book)) (at .ensures)) in (
+      search needs,
+      search needs,
+      search needs,
+      omega (arith, read, c .before .before .wide .ensures, c .before .nth .ensures),
+      search needs,
+      same
+          ∙ sym read ∙ sym (c .before .before .wide .ensures) ∙ sym (c .before .nth .ensures),
+    )
 
 returns : tie.Need-returns
 returns c =

@@ -75,7 +75,8 @@ returns c =
     let swept = close .before .before .before .before in
     let heads = swept .before .before in
     let link = heads .before .before .before .before in
-    link-done _ _ _ _ _ (link .between .ensures) (heads .before .before .held-of .ensures) (heads .taken-of .ensures) (swept .sweep .ensures) (close .close-up .ensures) (words .before .word .ensures) (words .word2 .ensures) (c .before .before .set-head .ensures)
+    link-done _ _ _ _ _ (link .between .ensures) (heads .before .before .held-of .ensures) (heads .taken-of .ensures) (swept .sweep .ensures)
+    (close .close-up .ensures) (words .before .word .ensures) (words .word2 .ensures) (c .before .before .set-head .ensures)
 
 pub show-link-spec : {M : Type 1} → statement M
 show-link-spec =

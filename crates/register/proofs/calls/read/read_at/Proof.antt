@@ -51,8 +51,13 @@ counts-of-requires c κs = whole (c .before .before) .full
 home-depot-requires : tie.Need-home-depot-requires
 home-depot-requires c κs =
     let start = c .before .before .before .before in
-    let w = whole start in
-    (w .full, lt-of-lt-of-le (start .pre .1) (w .within .crews), subst (λ (n : Counts). home (now (start .args .book)) (start .args .c .0) < n .depots) (sym (c .before .counts-of .ensures)) (w .parts .homes _ (start .pre .1)))
+    let w = whole start in (
+      w .full,
+      lt-of-lt-of-le (start .pre .1) (w .within .crews),
+      subst
+          (λ (n : Counts). home (now (start .args .book)) (start .args .c .0) < n .depots) (sym (c .before .counts-of .ensures))
+          (w .parts .homes _ (start .pre .1)),
+    )
 
 shelf-for-requires : tie.Need-shelf-for-requires
 shelf-for-requires c κs =

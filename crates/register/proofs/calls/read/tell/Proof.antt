@@ -27,7 +27,12 @@ unfolding tells
 returns c =
     let zero = c .before in
     let start = zero .before .before .before .before .before in
-    λ z. record { finding = sym (pick-true {A = Finding} Finding.Unwritten (Finding.Value (valueOf (now (start .args .version)))) (sym (said zero) ∙ c .if1 .taken)) z; vector = (vector-said (zero .before .before)) z }
+    λ z. record {
+      finding = sym
+          (pick-true {A = Finding} Finding.Unwritten (Finding.Value (valueOf (now (start .args .version)))) (sym (said zero) ∙ c .if1 .taken)) z;
+      vector =
+          (vector-said (zero .before .before)) z;
+    }
 
 returns-2 : tie.Need-returns-2
 unfolding tells
@@ -35,7 +40,12 @@ returns-2 c =
     let at1 = c .before in
     let zero = at1 .before in
     let start = zero .before .before .before .before .before in
-    λ z. record { finding = sym (pick-false {A = Finding} Finding.Unwritten (Finding.Value (valueOf (now (start .args .version)))) (sym (said zero) ∙ at1 .if1 .left)) z; vector = (vector-said (zero .before .before)) z }
+    λ z. record {
+      finding = sym
+          (pick-false {A = Finding} Finding.Unwritten (Finding.Value (valueOf (now (start .args .version)))) (sym (said zero) ∙ at1 .if1 .left)) z;
+      vector =
+          (vector-said (zero .before .before)) z;
+    }
 
 pub tell-spec : {M : Type 1} → statement M
 tell-spec =

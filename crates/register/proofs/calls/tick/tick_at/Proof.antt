@@ -96,7 +96,8 @@ returns-3 c =
     let t = at1 .before .clock-of .ensures in
     let changed : c .before .before .send .last .0 ≡ tickBook book (args .d .0) (args .s .0) =
     c .before .before .send .ensures
-    ∙ ap (λ (n : Counts). sent (n .depots) (args .d .0) (args .s .0) (at1 .before .clock-of .result + 1) (beat (at1 .before .clock-of .result + 1)) book) (at2 .before .before .before .counts-of .ensures)
+    ∙ ap (λ (n : Counts). sent (n .depots) (args .d .0) (args .s .0) (at1 .before .clock-of .result + 1)
+    (beat (at1 .before .clock-of .result + 1)) book) (at2 .before .before .before .counts-of .ensures)
     ∙ ap (λ (x : ℕ). sent (countsOf book .depots) (args .d .0) (args .s .0) (x + 1) (beat (x + 1)) book) t in
     record { answer = answer-done _ e; book = changed ∙ after-done _ _ _ e }
 

@@ -8,7 +8,8 @@ use Rattle.register.proofs.calls.write.stamp_crew.Statement.{statement}
 use Rattle.register.proofs.calls.write.stamp_crew.Tie as tie
 
 returns : tie.Need-returns
-returns c = λ z. set (c .before .before .before .before .settle-home .ensures z) (c .before .crew-at .ensures z + c .index .ensures z) (c .before .before .before .before .before .before .before .args .stamp)
+returns c = λ z. set (c .before .before .before .before .settle-home .ensures z) (c .before .crew-at .ensures z + c .index .ensures z)
+    (c .before .before .before .before .before .before .before .args .stamp)
 
 pub stamp-crew-spec : {M : Type 1} → statement M
 stamp-crew-spec =

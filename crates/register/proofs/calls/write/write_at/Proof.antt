@@ -63,7 +63,8 @@ small c =
     let n = c .before .before .before .counts-of .ensures in (
       subst (λ (x : ℕ). x < 4) (sym (c .before .home-depot .ensures)) (lt-of-lt-of-le (w .parts .homes _ (start .pre .1)) (w .within .depots)),
       subst (λ (x : ℕ). x < 4) (sym (c .shelf-for .ensures))
-          (subst (λ (m : Counts). start .args .k .0 % m .shelves < 4) (sym n) (lt-of-lt-of-le (shelf-in (countsOf (now (start .args .book))) (now (start .args .book)) w (start .args .k .0)) (w .within .shelves))),
+          (subst (λ (m : Counts). start .args .k .0 % m .shelves < 4) (sym n)
+          (lt-of-lt-of-le (shelf-in (countsOf (now (start .args .book))) (now (start .args .book)) w (start .args .k .0)) (w .within .shelves))),
       lt-of-lt-of-le (start .pre .1) (w .within .crews),
       subst (λ (m : Counts). m .depots ≤ 4) (sym n) (w .within .depots),
     )
@@ -127,8 +128,13 @@ counts-of-requires c κs = whole (c .before .before) .full
 home-depot-requires : tie.Need-home-depot-requires
 home-depot-requires c κs =
     let start = c .before .before .before .before in
-    let w = whole start in
-    (w .full, lt-of-lt-of-le (start .pre .1) (w .within .crews), subst (λ (n : Counts). home (now (start .args .book)) (start .args .c .0) < n .depots) (sym (c .before .counts-of .ensures)) (w .parts .homes _ (start .pre .1)))
+    let w = whole start in (
+      w .full,
+      lt-of-lt-of-le (start .pre .1) (w .within .crews),
+      subst
+          (λ (n : Counts). home (now (start .args .book)) (start .args .c .0) < n .depots) (sym (c .before .counts-of .ensures))
+          (w .parts .homes _ (start .pre .1)),
+    )
 
 shelf-for-requires : tie.Need-shelf-for-requires
 shelf-for-requires c κs =
