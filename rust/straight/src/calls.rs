@@ -165,7 +165,7 @@ fn counts(book: &[u32]) -> Result<Counts, Refusal> {
 }
 
 /// A number below its count, or the refusal that names it.
-fn below(number: u32, count: usize, refusal: Refusal) -> Result<usize, Refusal> {
+pub fn below(number: u32, count: usize, refusal: Refusal) -> Result<usize, Refusal> {
     if (number as usize) < count {
         Ok(number as usize)
     } else {
@@ -174,7 +174,7 @@ fn below(number: u32, count: usize, refusal: Refusal) -> Result<usize, Refusal> 
 }
 
 /// The D entries of the vector that starts at `at`, and 0 past them.
-fn vector(book: &[u32], n: Counts, at: usize) -> [u32; 4] {
+pub fn vector(book: &[u32], n: Counts, at: usize) -> [u32; 4] {
     let mut entries = [0; 4];
     entries[..n.depots].copy_from_slice(&book[at..at + n.depots]);
     entries

@@ -20,7 +20,7 @@ mod fit;
 pub mod layout;
 mod order;
 
-pub use calls::{read, refresh, setup, take, tick, write, Reading, Written};
+pub use calls::{below, read, refresh, setup, take, tick, vector, write, Reading, Written};
 pub use desk::{desk, line, LONGEST_LINE};
 pub use fit::is_fit;
 pub use layout::{Counts, WORDS};

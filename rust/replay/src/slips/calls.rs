@@ -2,7 +2,7 @@
 
 use super::{Slip, Slipped};
 use straight::layout::*;
-use straight::{Counts, Reading, Refusal, Written};
+use straight::{below, vector, Counts, Reading, Refusal, Written};
 
 type Answer<T> = Result<T, Refusal>;
 
@@ -284,18 +284,4 @@ impl Slipped {
         }
         Ok(())
     }
-}
-
-fn below(number: u32, count: usize, refusal: Refusal) -> Answer<usize> {
-    if (number as usize) < count {
-        Ok(number as usize)
-    } else {
-        Err(refusal)
-    }
-}
-
-fn vector(book: &[u32], n: Counts, at: usize) -> [u32; 4] {
-    let mut entries = [0; 4];
-    entries[..n.depots].copy_from_slice(&book[at..at + n.depots]);
-    entries
 }
