@@ -1,0 +1,29 @@
+-- `events::reply::run_read` meets its contract: the promise of the call settles what is printed.
+-- Assumes nothing.
+use Rattle.line.proofs.PrintLaws.{wrote-same}
+use Rattle.register.proofs.Numbers.{read-done}
+use Rattle.events.specs.Answering.{eventBook, eventSays}
+use Rattle.events.proofs.NumberLaws.{read-under}
+use Rattle.events.proofs.SayLaws.{found-by-number}
+use borrow.Author.Needs.{needs}
+use Rattle.events.proofs.reply.run_read.Statement.{statement}
+use Rattle.events.proofs.reply.run_read.Tie as tie
+
+returns : tie.Need-returns
+unfolding eventBook eventSays
+returns c =
+    let promise = c .before .before .before .before .before .before .before .read .ensures in
+    (promise .book, wrote-same (found-by-number _ _ _ _ _ (read-under _ _ _) (λ z. c .before .before .before .before .before .before .before .before .before .before .before .depots-in .ensures .1 (read-done _ _ _ z .fits)) (promise .answer)) (c .before .before .say-finding .ensures))
+
+pub run-read-spec : {M : Type 1} → statement M
+run-read-spec =
+    tie.close
+    (tie.spec
+    (λ c κs. search needs)
+    (λ c. search needs)
+    (λ c. search needs)
+    (λ c κs. search needs)
+    (λ c κs. search needs)
+    (λ c. search needs)
+    (λ c. search needs)
+    returns)

@@ -1,0 +1,28 @@
+-- `events::reply::run_take` meets its contract: the promise of the call settles what is printed.
+-- Assumes nothing.
+use Rattle.line.proofs.PrintLaws.{wrote-same}
+use Rattle.events.specs.Answering.{eventBook, eventSays}
+use Rattle.events.proofs.NumberLaws.{take-under}
+use Rattle.events.proofs.SayLaws.{number-says}
+use borrow.Author.Needs.{needs}
+use Rattle.events.proofs.reply.run_take.Statement.{statement}
+use Rattle.events.proofs.reply.run_take.Tie as tie
+
+returns : tie.Need-returns
+unfolding eventBook eventSays
+returns c =
+    let promise = c .before .before .before .before .before .before .take .ensures in
+    (promise .book, wrote-same (number-says _ (take-under _ _ _ _) (promise .answer)) (c .before .before .say-answer .ensures))
+
+pub run-take-spec : {M : Type 1} → statement M
+run-take-spec =
+    tie.close
+    (tie.spec
+    (λ c. search needs)
+    (λ c. search needs)
+    (λ c. search needs)
+    (λ c κs. search needs)
+    (λ c κs. search needs)
+    (λ c. search needs)
+    (λ c. search needs)
+    returns)
