@@ -1,3 +1,4 @@
--- What the proofs of several functions use.
+-- What the proofs of several functions use, and what is shown of a whole input.
 pub mod NumberLaws
 pub mod SayLaws
+pub mod StreamLaws

@@ -1,3 +1,4 @@
 // The desk's events: one line to one answer, and a whole input to its answers.
 pub mod numbers;
 pub mod reply;
+pub mod stream;

@@ -35,7 +35,7 @@ ghost use Rattle.line.specs.declared.reader.Event.the-variants.{Setup, Read, Wr
 ghost use Rattle.events.specs.Answering.{answerRoom, eventSays, eventBook, readingSays, readingBook, answerTo, bookAfter};
 ghost use Rattle.events.specs.Numbers.{answerNumber, findingSays, writtenSays};
 
-const LINE_FEED: u8 = b'\n';
+pub const LINE_FEED: u8 = b'\n';
 
 const BAD_LINE: u32 = 13;
 
