@@ -2,3 +2,4 @@
 pub mod NumberLaws
 pub mod SayLaws
 pub mod StreamLaws
+pub mod Theorems
