@@ -6,7 +6,7 @@ use native.Mathlib.Omega.{arith}
 use mathlib.Core.Path.{_≡_, refl, sym, _∙_, ap, ap₂, subst}
 use mathlib.Core.Logic.{⊎-elim}
 use mathlib.Core.List.{List, [], _∷_, _++_, append-nil, append-assoc}
-use lib.ListN.{length, getD, take, set, length-set}
+use lib.ListN.{length, getD, take, set, length-append, length-take, length-set}
 use lib.Seq.{take-suc, take-set-le, getD-set-same, length-take-le, take-all}
 use borrow.Author.Tests.{eq-eqb, ne-eqb, lt-ltb, le-ltb}
 use Rattle.order.proofs.BoolLaws.{eq-or-ne, pick-true, pick-false}
@@ -169,3 +169,36 @@ module _ (l line : List ℕ) {kept : ℕ} where
   last-some h k =
       let some : length (take kept line) ≡ 0 → ⊥ = λ z. h (sym (length-take-le kept line k) ∙ z) in
       (pick-false _ _ (ne-eqb _ 0 some), pick-false _ _ (ne-eqb _ 0 some))
+
+-- ---- how much is said at most
+
+pub says-through-length : (l p t : List ℕ) → length (saysThrough l p t) ≤ 64 * length t
+unfolding saysThrough
+says-through-length l p [] = omega arith
+says-through-length l p (b ∷ t) =
+    let one = says-at-length l p b in
+    let rest = says-through-length (bookAt l p b) (lineAt p b) t in
+    let both = length-append (saysAt l p b) (saysThrough (bookAt l p b) (lineAt p b) t) in
+    omega arith
+
+pub says-last-length : (l p : List ℕ) → length (saysLast l p) ≤ 64
+unfolding saysLast
+says-last-length l p =
+    ⊎-elim
+    (λ (e : length p ≡ 0). subst (λ (x : List ℕ). length x ≤ 64) (sym (pick-true [] (answerTo l p) (eq-eqb (length p) 0 e))) (omega arith))
+    (λ (e : length p ≡ 0 → ⊥). subst (λ (x : List ℕ). length x ≤ 64) (sym (pick-false [] (answerTo l p) (ne-eqb (length p) 0 e))) (answer-length l p))
+    (eq-or-ne (length p) 0)
+
+-- so an output with room for an answer to each byte of a text holds what is said to any beginning of it
+pub answers-room : (l p : List ℕ) {o o′ : List ℕ} {next : ℕ} (n : ℕ) (t : List ℕ) → Wrote o 0 (saysThrough l p (take n t)) o′ next → 64 * length t ≤ length o → next ≤ length o′
+answers-room l p n t w h =
+    let most = says-through-length l p (take n t) in
+    let part = length-take n t in
+    let same = wrote-length w in
+    omega (arith, w .after)
+
+pub last-room : (l p : List ℕ) {o o′ : List ℕ} {next : ℕ} → Wrote o 0 (saysLast l p) o′ next → 64 ≤ length o → next ≤ length o′
+last-room l p w h =
+    let most = says-last-length l p in
+    let same = wrote-length w in
+    omega (arith, w .after)
