@@ -17,7 +17,7 @@ use Rattle.register.specs.Answers.{refusalOf, numbered, numberOf}
 use Rattle.register.specs.Calls.{tickBook}
 use Rattle.register.proofs.CallLaws.{not-done, refused-answer, refused-book, answer-done, after-done}
 use Rattle.register.proofs.FitParts.{Whole, whole-open}
-use Rattle.register.proofs.FitKept.{roomy-free}
+use Rattle.register.proofs.FitReady.{roomy-free}
 use Rattle.register.proofs.SendTable.{tick-end, tick-full, tick-good}
 use borrow.Author.Needs.{needs}
 use Rattle.register.proofs.calls.tick.tick_at.Statement.{statement}

@@ -18,7 +18,7 @@ use Rattle.register.specs.Table.{shelfOf, writeNumber}
 use Rattle.register.specs.Checks.{MayWrite}
 use Rattle.register.proofs.CallLaws.{not-done, refused-write, refused-book, after-done}
 use Rattle.register.proofs.FitParts.{Whole, whole-open}
-use Rattle.register.proofs.FitKept.{shelf-in}
+use Rattle.register.proofs.FitReady.{shelf-in}
 use Rattle.register.proofs.SendTable.{write-wait, write-end, write-full, write-good}
 use borrow.Author.Needs.{needs}
 use Rattle.register.proofs.calls.write.write_at.Statement.{statement}
