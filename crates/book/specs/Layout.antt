@@ -11,6 +11,10 @@ use Rattle.book.specs.declared.parts.Counts.{Counts}
 abbrev pub bookWords : ℕ
 bookWords = 16384
 
+-- the end of every clock, stamp and vector entry
+abbrev pub end : ℕ
+end = 2147483647
+
 -- ---- what the layout has room for; `mostDepots` of crate order is 4
 
 abbrev pub mostShelves : ℕ

@@ -11,6 +11,9 @@ ghost use Rattle.book.specs.Layout.{homeAt, crewAt, clockAt, stableAt, s
 
 pub const BOOK_WORDS: usize = 16384;
 
+// The end of every clock, stamp and vector entry.
+pub const END: u32 = 2147483647;
+
 // The places of the four counts.
 pub const DEPOTS: usize = 0;
 

@@ -1,8 +1,8 @@
 // Links: their heads and their messages.
-use crate::version::END;
 use crate::version::carried_fits;
 use book::layout::BEAT;
 use book::layout::COPY;
+use book::layout::END;
 use book::layout::LINK_ROOM;
 use book::layout::Link;
 use book::layout::SLOT_WORDS;

@@ -19,10 +19,10 @@ use Rattle.order.specs.Record.{bearingOf, vectorOf, rankOf}
 use Rattle.order.proofs.BoolLaws.{pick-true, pick-false, and-intro, and-stop}
 use Rattle.order.proofs.LoopLaws.{times-none, times-more}
 use Rattle.book.specs.Words.{part, put}
-use Rattle.book.specs.Layout.{slotAt, storedAt, stableAt, seenAt, heldAt, takenAt, linkOf, beatKind, stored, stable, slot, held, taken, kindOf, recordOf}
+use Rattle.book.specs.Layout.{end, slotAt, storedAt, stableAt, seenAt, heldAt, takenAt, linkOf, beatKind, stored, stable, slot, held, taken, kindOf, recordOf}
 use Rattle.book.proofs.WordsLaws.{part-from, part-at, part-part}
 use Rattle.shelf.specs.Asks.{Sound, Ready, Free}
-use Rattle.shelf.specs.Send.{end, sentTo, stampFrom, movedOn, took, lowest, lowestSeen}
+use Rattle.shelf.specs.Send.{sentTo, stampFrom, movedOn, took, lowest, lowestSeen}
 use Rattle.shelf.specs.Show.{Sweep, keptIn, closedUp, withHead, sweepOne, swept, sweptUp, shownLink}
 use Rattle.shelf.proofs.FrameLaws.{swept-kept, swept-later}
 use Rattle.shelf.proofs.ShowFrame.{showTurn, show-turns-sound}

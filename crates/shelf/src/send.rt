@@ -2,6 +2,7 @@
 use crate::link::close_up;
 use crate::show::word;
 use book::layout::BEAT;
+use book::layout::END;
 use book::layout::LINK_ROOM;
 use book::layout::Link;
 use book::layout::clock_at;
@@ -25,9 +26,6 @@ ghost use Rattle.book.specs.Layout.{bookWords, slotWords, links, linkRoom, most
 ghost use Rattle.shelf.specs.Asks.{Free};
 ghost use Rattle.shelf.specs.Show.{closedUp};
 ghost use Rattle.shelf.specs.Send.{roomy, sentTo, sent, stampFrom, took, lowest, lowestSeen, fourOf};
-
-// The end of every clock and stamp.
-pub const END: u32 = 2147483647;
 
 // Whether the link of a shelf from one depot to another has room; a depot has no link to itself.
 fn has_room(book: &[u32], d: Depot, s: Shelf, to: Depot) -> bool

@@ -7,8 +7,8 @@ use mathlib.Core.Path.{_≡_, refl, sym}
 use mathlib.Core.List.{List}
 use mathlib.Core.Bool.{true}
 use Rattle.order.proofs.LoopLaws.{times-keeps}
-use Rattle.book.specs.Layout.{countsOf, home, crewVector, clock, stored}
-use Rattle.fit.specs.Fit.{end, fit}
+use Rattle.book.specs.Layout.{end, countsOf, home, crewVector, clock, stored}
+use Rattle.fit.specs.Fit.{fit}
 use Rattle.shelf.specs.Send.{beat, lowest, lowestSeen}
 use Rattle.shelf.proofs.FrameLaws.{pick-cases}
 use Rattle.register.specs.Table.{shelfOf, readNumber, tickNumber, takeNumber, refreshNumber}

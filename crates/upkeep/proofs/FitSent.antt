@@ -9,8 +9,7 @@ use mathlib.Core.List.{List, [], _∷_}
 use lib.ListN.{length, getD}
 use Rattle.order.proofs.BoolLaws.{eq-or-ne}
 use Rattle.book.specs.declared.parts.Counts.{Counts}
-use Rattle.book.specs.Layout.{clockAt, stableAt, seenAt, linkOf}
-use Rattle.fit.specs.Fit.{end}
+use Rattle.book.specs.Layout.{end, clockAt, stableAt, seenAt, linkOf}
 use Rattle.shelf.specs.Send.{sent}
 use Rattle.shelf.proofs.AllLaws.{AllOf, all-append, all-one}
 use Rattle.shelf.proofs.SendFrame.{Free, OffOut, length-sent, sent-off, sent-low}

@@ -16,8 +16,8 @@ use Rattle.order.proofs.BoolLaws.{eq-or-ne}
 use Rattle.order.proofs.LoopLaws.{times-keeps}
 use Rattle.order.proofs.VectorLaws.{merged-own, merged-entry}
 use Rattle.book.specs.declared.parts.Counts.{Counts}
-use Rattle.book.specs.Layout.{stable, clockAt, stableAt, seenAt, storedAt, linkOf, stored, recordOf}
-use Rattle.fit.specs.Fit.{end, keptFit}
+use Rattle.book.specs.Layout.{end, stable, clockAt, stableAt, seenAt, storedAt, linkOf, stored, recordOf}
+use Rattle.fit.specs.Fit.{keptFit}
 use Rattle.shelf.specs.Show.{settled}
 use Rattle.shelf.proofs.FrameLaws.{Off, pick-cases, part-off}
 use Rattle.shelf.proofs.AllLaws.{AllOf, all-map, all-staying, records-shown-all}

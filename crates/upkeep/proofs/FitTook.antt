@@ -11,8 +11,7 @@ use lib.ListN.{getD}
 use borrow.Author.Tests.{eqb-false}
 use Rattle.order.proofs.BoolLaws.{decided, pick-true, pick-false, eq-or-ne}
 use Rattle.book.specs.declared.parts.Counts.{Counts}
-use Rattle.book.specs.Layout.{beatKind, clockAt, stableAt, seenAt, slotAt, heldAt, linkOf, held, taken, slot, kindOf}
-use Rattle.fit.specs.Fit.{end}
+use Rattle.book.specs.Layout.{end, beatKind, clockAt, stableAt, seenAt, slotAt, heldAt, linkOf, held, taken, slot, kindOf}
 use Rattle.shelf.specs.Send.{took}
 use Rattle.shelf.proofs.FrameLaws.{Off}
 use Rattle.shelf.proofs.AllLaws.{AllOf, all-append, all-one, all-first, all-rest}

@@ -9,8 +9,8 @@ use lib.Dec.{eqb}
 use borrow.Author.Tests.{eq-eqb}
 use Rattle.order.specs.Record.{bearingOf, originOf, vectorOf}
 use Rattle.order.proofs.BoolLaws.{pick-true}
-use Rattle.book.specs.Layout.{copyKind, countsOf, home, crewVector, clock}
-use Rattle.fit.specs.Fit.{end, fit}
+use Rattle.book.specs.Layout.{end, copyKind, countsOf, home, crewVector, clock}
+use Rattle.fit.specs.Fit.{fit}
 use Rattle.shelf.specs.Show.{keptIn}
 use Rattle.shelf.proofs.FrameLaws.{pick-cases}
 use Rattle.register.specs.Table.{shelfOf, writeNumber}
