@@ -112,13 +112,23 @@ copyKind = 1
 abbrev pub beatKind : ℕ
 beatKind = 2
 
+-- behind the kind stand a copy's record, and in it the vector, or a heartbeat's stamp
+abbrev pub slotRecord : ℕ
+slotRecord = 1
+
+abbrev pub slotVector : ℕ
+slotVector = 6
+
+abbrev pub slotStamp : ℕ
+slotStamp = 1
+
 abbrev pub kindOf : List ℕ → ℕ
 kindOf m = getD m 0 0
 
 -- a heartbeat's stamp
 abbrev pub beatOf : List ℕ → ℕ
-beatOf m = getD m 1 0
+beatOf m = getD m slotStamp 0
 
 -- a copy's version record
 abbrev pub recordOf : List ℕ → List ℕ
-recordOf m = part m 1 recordWords
+recordOf m = part m slotRecord recordWords

@@ -5,6 +5,8 @@ use book::layout::BEAT;
 use book::layout::END;
 use book::layout::LINK_ROOM;
 use book::layout::Link;
+use book::layout::SLOT_STAMP;
+use book::layout::SLOT_VECTOR;
 use book::layout::clock_at;
 use book::layout::seen_at;
 use book::numbers::Depot;
@@ -96,9 +98,9 @@ fn stamp_of(book: &[u32], q: Link, i: usize, from: Depot) -> u32
 {
     let at = q.slot_at(i);
     if is_beat(book, q, i) {
-        return book[at + 1];
+        return book[at + SLOT_STAMP];
     }
-    book[at + 6 + from.index()]
+    book[at + SLOT_VECTOR + from.index()]
 }
 
 // The first untaken message of a link is gone, where it is a heartbeat; else it is one of the taken.
