@@ -11,6 +11,9 @@ ghost use Rattle.book.specs.Layout.{homeAt, crewAt, clockAt, stableAt, s
 
 pub const BOOK_WORDS: usize = 16384;
 
+// The end of every clock, stamp and vector entry.
+pub const END: u32 = 2147483647;
+
 // The places of the four counts.
 pub const DEPOTS: usize = 0;
 
@@ -20,14 +23,25 @@ pub const BEARINGS: usize = 2;
 
 pub const CREWS: usize = 3;
 
+// Where the homes start.
+pub const HOMES: usize = 4;
+
 // How many bearings the layout has room for.
 pub const BEARING_ROOM: usize = 160;
 
-// How many messages a link has room for, the words of a slot, and the kinds of message.
+// How many messages a link has room for, and the words of a slot.
 pub const LINK_ROOM: usize = 16;
 
 pub const SLOT_WORDS: usize = 10;
 
+// Behind the kind of a message stand a copy's record, and in it the vector, or a heartbeat's stamp.
+pub const SLOT_RECORD: usize = 1;
+
+pub const SLOT_VECTOR: usize = 6;
+
+pub const SLOT_STAMP: usize = 1;
+
+// The kinds of message.
 pub const COPY: u32 = 1;
 
 pub const BEAT: u32 = 2;
@@ -74,7 +88,7 @@ pub fn home_at(c: Crew) -> usize
     requires { ⌜ c .0 < mostCrews ⌝ }
     ensures { λ r. ⌜ r ≡ homeAt (c .0) ⌝ }
 {
-    4 + c.index()
+    HOMES + c.index()
 }
 
 // Where a crew's vector starts.

@@ -13,8 +13,8 @@ use Rattle.fit.specs.Fit.{fit}
 use Rattle.register.specs.Promises as promises
 use Rattle.register.specs.Table as table
 use Rattle.register.specs.Calls.{setUp}
-use Rattle.register.proofs.History as told
-use Rattle.register.proofs.NeverBadBook.{fit-number}
+use Rattle.upkeep.proofs.History as told
+use Rattle.upkeep.proofs.NeverBadBook.{fit-number}
 use Rattle.model.specs.Parts as model
 use Rattle.model.specs.Rules as rules
 use Rattle.model.specs.Calls as calls

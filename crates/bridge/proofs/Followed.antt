@@ -12,7 +12,7 @@ use Rattle.fit.specs.Fit.{fit}
 use Rattle.register.specs.Promises as promises
 use Rattle.register.specs.Calls.{setUp}
 use Rattle.register.specs.Table as table
-use Rattle.register.proofs.FitSetup.{setup-fit}
+use Rattle.upkeep.proofs.FitSetup.{setup-fit}
 use Rattle.model.specs.Parts.{Counts, State, fresh}
 use Rattle.model.specs.Calls as model
 use Rattle.bridge.specs.View.{toModel, countsIn, view}

@@ -22,7 +22,7 @@ use Rattle.shelf.specs.Show.{keptIn}
 use Rattle.shelf.proofs.FrameLaws.{length-kept-in, kept-in-low, kept-in-off}
 use Rattle.shelf.proofs.SweepLaws.{recordKept, kept-in-stored}
 use Rattle.register.specs.Calls.{newStamp, madeVector, madeRecord}
-use Rattle.register.proofs.FitWrite.{made-entry}
+use Rattle.register.proofs.MadeLaws.{made-entry}
 use Rattle.model.specs.Parts.{Counts, Version, Write, copy, put}
 use Rattle.model.specs.Rules.{keeping, storing, keep}
 use Rattle.model.proofs.Places.{put-same, put-other}
@@ -91,7 +91,7 @@ module _ (l : List ℕ) (F : fit l ≡ true) (c k value : ℕ) (kc : c < countsI
 
   pub made-message-of : messageOf (countsIn l .depots) (copyKind ∷ madeRecord l c k value) ≡ copy newWrite
   unfolding messageOf pick
-  made-message-of = ap (λ (r : List ℕ). copy (writeOf (countsIn l .depots) r)) (Rattle.register.proofs.FitWrite.made-record-of l c k value) ∙ ap copy made-write
+  made-message-of = ap (λ (r : List ℕ). copy (writeOf (countsIn l .depots) r)) (Rattle.register.proofs.MadeLaws.made-record-of l c k value) ∙ ap copy made-write
 
 -- ---- storing if greater
 

@@ -13,7 +13,7 @@ use Rattle.order.specs.Loops.{pick}
 use Rattle.order.proofs.BoolLaws.{pick-true, pick-false}
 use Rattle.book.specs.Layout.{home, crewVector, clock}
 use Rattle.fit.specs.Fit.{fit}
-use Rattle.register.proofs.NeverBadAnswer.{refusal-number}
+use Rattle.upkeep.proofs.NeverBadAnswer.{refusal-number}
 use Rattle.register.specs.Answers.{numberOf, refusalOf, answerOf, readRefused, writeRefused}
 use Rattle.register.specs.Table as table
 use Rattle.register.specs.declared.answer.ReadAnswer.{ReadAnswer}

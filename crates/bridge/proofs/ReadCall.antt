@@ -21,7 +21,7 @@ use Rattle.register.specs.Calls.{settledHome, readRecord, readBook}
 use Rattle.register.specs.Promises.{Read}
 use Rattle.register.specs.declared.answer.ReadAnswer.{ReadAnswer}
 use Rattle.register.proofs.Numbers.{ReadDone, read-done}
-use Rattle.register.proofs.FitKept.{read-fit}
+use Rattle.upkeep.proofs.FitKept.{read-fit}
 use Rattle.model.specs.Parts.{Version, State, setShelf, setCrew}
 use Rattle.model.specs.Rules.{settled, settle}
 use Rattle.model.specs.Calls.{read, told, acted, reading, homeShelf, shelfOf}

@@ -15,7 +15,7 @@ use Rattle.register.specs.Calls.{refreshBook}
 use Rattle.register.specs.Promises.{Refresh}
 use Rattle.register.specs.declared.answer.Answer as register
 use Rattle.register.proofs.Numbers.{refresh-done}
-use Rattle.register.proofs.FitKept.{refresh-fit}
+use Rattle.upkeep.proofs.FitKept.{refresh-fit}
 use Rattle.model.specs.Parts.{Counts, Shelf, end, lowest, other}
 use Rattle.model.specs.Rules.{lowestSeen}
 use Rattle.model.specs.Calls.{refresh, acted}

@@ -18,7 +18,7 @@ use Rattle.register.specs.Calls.{setUp}
 use Rattle.register.specs.Promises.{after, Setup}
 use Rattle.register.specs.Table as table
 use Rattle.register.specs.declared.answer.Answer as register
-use Rattle.register.proofs.FitSetup.{setup-fit}
+use Rattle.upkeep.proofs.FitSetup.{setup-fit}
 use Rattle.model.specs.Calls as model
 use Rattle.bridge.specs.View.{toModel, countsIn, view}
 use Rattle.bridge.specs.Paper.{paper}

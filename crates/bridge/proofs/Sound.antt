@@ -12,8 +12,8 @@ use Rattle.order.specs.Vector.{zeros}
 use Rattle.order.specs.Record.{bearingOf, originOf, vectorOf}
 use Rattle.order.proofs.VectorLaws.{written-at}
 use Rattle.book.specs.declared.parts.Counts as book
-use Rattle.book.specs.Layout.{bookWords, countsOf, home, linkOf, held, taken, slot, copyKind, beatKind, kindOf, beatOf, recordOf}
-use Rattle.fit.specs.Fit.{end, fit}
+use Rattle.book.specs.Layout.{end, bookWords, countsOf, home, linkOf, held, taken, slot, copyKind, beatKind, kindOf, beatOf, recordOf}
+use Rattle.fit.specs.Fit.{fit}
 use Rattle.shelf.proofs.AllLaws.{all-slots-at}
 use Rattle.shelf.proofs.ShowLaws.{takenSlots, untakenSlots}
 use Rattle.register.proofs.FitParts.{IsCopy, IsMessage, LinkOk, Whole, whole-open}

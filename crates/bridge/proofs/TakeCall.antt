@@ -11,7 +11,7 @@ use Rattle.register.specs.Calls.{takeBook}
 use Rattle.register.specs.Promises.{Take}
 use Rattle.register.specs.declared.answer.Answer as register
 use Rattle.register.proofs.Numbers.{take-done}
-use Rattle.register.proofs.FitKept.{take-fit}
+use Rattle.upkeep.proofs.FitKept.{take-fit}
 use Rattle.model.specs.Parts.{Shelf, setShelf}
 use Rattle.model.specs.Rules.{taking}
 use Rattle.model.specs.Calls.{take, acted}

@@ -15,7 +15,7 @@ use Rattle.register.specs.Calls.{tickBook}
 use Rattle.register.specs.Promises.{Tick}
 use Rattle.register.specs.declared.answer.Answer as register
 use Rattle.register.proofs.Numbers.{tick-done}
-use Rattle.register.proofs.FitKept.{tick-fit}
+use Rattle.upkeep.proofs.FitKept.{tick-fit}
 use Rattle.model.specs.Parts.{heartbeat, Shelf}
 use Rattle.model.specs.Rules.{send}
 use Rattle.model.specs.Calls.{tick, acted}

@@ -25,10 +25,12 @@ use Rattle.register.specs.Calls.{settledHome, newStamp, madeRecord, writtenCrew
 use Rattle.register.specs.Promises as promises
 use Rattle.register.specs.declared.answer.WriteAnswer.{WriteAnswer}
 use Rattle.register.proofs.FitParts.{Whole, whole-open}
-use Rattle.register.proofs.FitStored.{crew-set-whole, kept-in-whole}
-use Rattle.register.proofs.FitKept.{settled-home-whole}
-use Rattle.register.proofs.FitWrite.{length-made, made-record-of, made-version, out-stays, write-fit}
+use Rattle.upkeep.proofs.FitStored.{crew-set-whole, kept-in-whole}
+use Rattle.upkeep.proofs.FitKept.{settled-home-whole}
+use Rattle.upkeep.proofs.FitWrite.{made-version, write-fit}
 use Rattle.register.proofs.Numbers.{WriteDone, write-done}
+use Rattle.register.proofs.FitReady.{out-stays}
+use Rattle.register.proofs.MadeLaws.{length-made, made-record-of}
 use Rattle.model.specs.Parts.{Version, Write, copy, Shelf, State, put, rank, setCrew}
 use Rattle.model.specs.Rules.{shown, settled, settle, keep, send}
 use Rattle.model.specs.Calls.{write, acted, made, answered, homeShelf, shelfOf, current, superseded}

@@ -11,8 +11,8 @@ use Rattle.order.specs.Vector.{covered, zeros}
 use Rattle.order.specs.Order.{above}
 use Rattle.order.specs.Record.{valueOf, originOf, vectorOf, rankOf}
 use Rattle.book.specs.declared.parts.Counts.{Counts}
-use Rattle.book.specs.Layout.{countsOf, home, crewVector, clock, stable, seen, linkOf, held, taken, stored}
-use Rattle.fit.specs.Fit.{end, fit}
+use Rattle.book.specs.Layout.{end, countsOf, home, crewVector, clock, stable, seen, linkOf, held, taken, stored}
+use Rattle.fit.specs.Fit.{fit}
 use Rattle.register.specs.Answers.{tells}
 use Rattle.register.specs.Calls.{setUp, readRecord, madeRecord}
 use Rattle.bridge.specs.Histories.{Call, read, write, tick, take, refresh, Reply, found, Called, numberAt, replyTo, book, History}

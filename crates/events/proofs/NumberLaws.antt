@@ -8,9 +8,9 @@ use Rattle.book.specs.declared.parts.Counts.{Counts}
 use Rattle.register.specs.declared.answer.Answer.{Answer}
 use Rattle.register.specs.Answers.{numberOf, answerOf}
 use Rattle.register.specs.Table.{setupNumber, readNumber, writeNumber, tickNumber, takeNumber, refreshNumber}
-use Rattle.register.proofs.History.{numberAt, setup, read, write, tick, take, refresh}
+use Rattle.upkeep.proofs.History.{numberAt, setup, read, write, tick, take, refresh}
 use Rattle.register.proofs.CallLaws.{not-done}
-use Rattle.register.proofs.NeverBadAnswer.{number-under, refusal-number}
+use Rattle.upkeep.proofs.NeverBadAnswer.{number-under, refusal-number}
 use Rattle.events.specs.Numbers.{answerNumber}
 use native.Mathlib.Omega.{arith}
 

@@ -18,7 +18,7 @@ use Rattle.register.specs.declared.answer.ReadAnswer.{ReadAnswer}
 use Rattle.register.specs.declared.answer.WriteAnswer.{WriteAnswer}
 use Rattle.register.specs.Answers.{numberOf, refusalOf, answerOf, cut, tells, readRefused, writes, writeRefused}
 use Rattle.register.proofs.CallLaws.{not-done}
-use Rattle.register.proofs.NeverBadAnswer.{refusal-number}
+use Rattle.upkeep.proofs.NeverBadAnswer.{refusal-number}
 use Rattle.line.specs.Answers.{numberAnswer, valueAnswer, unwrittenAnswer, stampAnswer}
 use Rattle.line.specs.Grammar.{least, Says}
 use Rattle.line.specs.Reading.{Reading, bad, good, reading, lineOf}

@@ -1,4 +1,3 @@
 -- What the proofs of several functions use.
-pub mod NumberLaws
 pub mod OutLaws
 pub mod GreaterLaws

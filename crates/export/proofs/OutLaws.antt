@@ -14,7 +14,7 @@ use Rattle.register.specs.declared.answer.WriteAnswer.{WriteAnswer}
 use Rattle.register.specs.Answers.{cut, tells, readRefused, writes, writeRefused}
 use Rattle.register.specs.Promises.{after}
 use Rattle.register.proofs.CallLaws.{not-done, after-refused, after-done}
-use Rattle.register.proofs.NeverBadAnswer.{refusal-number}
+use Rattle.upkeep.proofs.NeverBadAnswer.{refusal-number}
 use Rattle.export.specs.Numbers.{findingNumber, writeAnswerNumber, filled, four, readWords, foundOut, writtenOut}
 
 -- ---- a read

@@ -10,8 +10,6 @@ use Rattle.order.specs.Loops.{pick}
 use Rattle.order.specs.Vector.{zeros}
 use Rattle.order.specs.Order.{above}
 use Rattle.order.specs.Record.{mostDepots, rankIn, valueOf, vectorOf}
-use Rattle.register.specs.declared.answer.Answer.{Answer}
-use Rattle.register.specs.declared.answer.Answer.the-variants.{Done}
 use Rattle.register.specs.declared.answer.Finding.{Finding}
 use Rattle.register.specs.declared.answer.Finding.the-variants.{Value, Unwritten}
 use Rattle.register.specs.declared.answer.ReadAnswer.{ReadAnswer}
@@ -19,11 +17,7 @@ use Rattle.register.specs.declared.answer.WriteAnswer.{WriteAnswer}
 use Rattle.register.specs.declared.answer.WriteAnswer.the-variants.{Current, Superseded}
 use Rattle.register.specs.Answers.{numberOf, cut}
 
--- the number of an answer: 0 is done
-abbrev pub answerNumber : Answer → ℕ
-answerNumber Done = 0
-answerNumber (Answer.Refused r) = numberOf r
-
+-- the number of a read's answer and of a write's: 0 is done
 abbrev pub findingNumber : Finding → ℕ
 findingNumber (Value v) = 0
 findingNumber Unwritten = 0

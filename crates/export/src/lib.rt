@@ -1,13 +1,14 @@
 // The register as C calls it: each function makes one call and gives the number of its answer. include/depot_register.h declares them.
 use book::parts::wide;
 use book::words::write_words;
+use events::numbers::number_of;
+use events::numbers::number_of_answer;
+use events::reply::ANSWER_ROOM;
+use events::reply::answer_line;
 use fit::whole::is_fit;
 use order::record::MOST_DEPOTS;
 use order::record::exceeds;
-use register::answer::Answer;
 use register::answer::Finding;
-use register::answer::ReadAnswer;
-use register::answer::Refusal;
 use register::answer::WriteAnswer;
 use register::calls::read::read;
 use register::calls::refresh::refresh;
@@ -17,42 +18,17 @@ use register::calls::tick::tick;
 use register::calls::write::write;
 ghost use mathlib.Core.Path.{_≡_};
 ghost use mathlib.Core.List.{[], _∷_};
+ghost use lib.Dec.{leb};
+ghost use lib.ListN.{length};
+ghost use lib.Seq.{sets};
 ghost use Rattle.order.specs.Loops.{pick};
 ghost use Rattle.book.specs.Layout.{countsOf};
 ghost use Rattle.fit.specs.Fit.{fit};
-ghost use Rattle.register.specs.Answers.{numberOf};
 ghost use Rattle.register.specs.Calls.{setUp, readRecord, readBook, newStamp, isCurrent, writeBook, tickBook, takeBook, refreshBook};
 ghost use Rattle.register.specs.Promises.{after};
+ghost use Rattle.events.specs.Answering.{answerRoom, answerTo, bookAfter};
 ghost use Rattle.register.specs.Table.{setupNumber, readNumber, writeNumber, tickNumber, takeNumber, refreshNumber};
-ghost use Rattle.export.specs.Numbers.{answerNumber, findingNumber, writeAnswerNumber, filled, readWords, foundOut, writtenOut, greaterNumber};
-
-// Document 01's number of a refusal.
-fn number_of(r: Refusal) -> u32
-    ensures { λ n. ⌜ n ≡ numberOf r ⌝ }
-{
-    match r {
-        Refusal::BadBook => 1,
-        Refusal::BadDepot => 2,
-        Refusal::BadShelf => 3,
-        Refusal::BadKey => 4,
-        Refusal::BadCrew => 5,
-        Refusal::SameDepot => 6,
-        Refusal::EmptyLink => 7,
-        Refusal::Wait => 8,
-        Refusal::LinkFull => 9,
-        Refusal::ClockAtEnd => 10,
-        Refusal::BadCounts => 11,
-    }
-}
-
-fn answer_number(a: Answer) -> u32
-    ensures { λ n. ⌜ n ≡ answerNumber a ⌝ }
-{
-    match a {
-        Answer::Done => 0,
-        Answer::Refused(r) => number_of(r),
-    }
-}
+ghost use Rattle.export.specs.Numbers.{findingNumber, writeAnswerNumber, filled, readWords, foundOut, writtenOut, greaterNumber};
 
 #[no_mangle]
 pub extern "C" fn depot_setup(
@@ -70,7 +46,7 @@ pub extern "C" fn depot_setup(
         (now (book .entry)) ⌝ }
 {
     let answer = setup(book, depots, shelves, bearings, crews, homes);
-    answer_number(answer)
+    number_of_answer(answer)
 }
 
 #[no_mangle]
@@ -79,7 +55,7 @@ pub extern "C" fn depot_tick(book: &mut [u32], depot: u32, shelf: u32) -> u32
     ensures { λ r. ⌜ now (book .exit) ≡ after (tickNumber (now (book .entry)) depot shelf) (tickBook (now (book .entry)) depot shelf) (now (book .entry)) ⌝ }
 {
     let answer = tick(book, depot, shelf);
-    answer_number(answer)
+    number_of_answer(answer)
 }
 
 #[no_mangle]
@@ -88,7 +64,7 @@ pub extern "C" fn depot_take(book: &mut [u32], depot: u32, shelf: u32, from: u32
     ensures { λ r. ⌜ now (book .exit) ≡ after (takeNumber (now (book .entry)) depot shelf from) (takeBook (now (book .entry)) depot shelf from) (now (book .entry)) ⌝ }
 {
     let answer = take(book, depot, shelf, from);
-    answer_number(answer)
+    number_of_answer(answer)
 }
 
 #[no_mangle]
@@ -97,7 +73,7 @@ pub extern "C" fn depot_refresh(book: &mut [u32], depot: u32, shelf: u32) -> u32
     ensures { λ r. ⌜ now (book .exit) ≡ after (refreshNumber (now (book .entry)) depot shelf) (refreshBook (now (book .entry)) depot shelf) (now (book .entry)) ⌝ }
 {
     let answer = refresh(book, depot, shelf);
-    answer_number(answer)
+    number_of_answer(answer)
 }
 
 // The words stand at the start of `out`, where it has room for them all.
@@ -208,4 +184,17 @@ pub extern "C" fn depot_greater(a: &[u32], b: &[u32], depots: u32) -> u32
         return 1;
     }
     0
+}
+
+#[no_mangle]
+pub extern "C" fn depot_line(book: &mut [u32], line: &[u8], out: &mut [u8]) -> usize
+    ensures { λ r. ⌜ r ≡ pick (leb answerRoom (length (now (out .entry)))) (length (answerTo (now (book .entry)) (now (line .entry)))) 0 ⌝ }
+    ensures { λ r. ⌜ now (book .exit) ≡ pick (leb answerRoom (length (now (out .entry)))) (bookAfter (now (book .entry)) (now (line .entry))) (now (book .entry)) ⌝ }
+    ensures { λ r. ⌜ now (out .exit)
+        ≡ pick (leb answerRoom (length (now (out .entry)))) (sets (now (out .entry)) 0 (answerTo (now (book .entry)) (now (line .entry)))) (now (out .entry)) ⌝ }
+{
+    if out.len() < ANSWER_ROOM {
+        return 0;
+    }
+    answer_line(book, line, out, 0)
 }

@@ -17,7 +17,8 @@ use Rattle.order.proofs.BoolLaws.{together, le-or-lt, eq-or-ne, pick-true, pick
 use Rattle.order.proofs.LoopLaws.{times-none, times-more, every-at, every-intro}
 use Rattle.order.proofs.VectorLaws.{zeros-at, zeros-intro}
 use Rattle.book.specs.declared.parts.Counts.{Counts}
-use Rattle.fit.specs.Fit.{end, inRange, versionFit, carriedFit, keptFit}
+use Rattle.book.specs.Layout.{end}
+use Rattle.fit.specs.Fit.{inRange, versionFit, carriedFit, keptFit}
 use Rattle.fit.specs.Look.{highest, entryOf}
 
 -- a number that is not 0

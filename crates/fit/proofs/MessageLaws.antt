@@ -10,8 +10,8 @@ use borrow.Author.Tests.{eq-eqb, ne-eqb}
 use Rattle.order.specs.Loops.{every}
 use Rattle.order.proofs.BoolLaws.{and-next, and-stop, or-next}
 use Rattle.book.specs.declared.parts.Counts.{Counts}
-use Rattle.book.specs.Layout.{copyKind, beatKind, kindOf, beatOf, recordOf, linkRoom, held, taken, slot}
-use Rattle.fit.specs.Fit.{end, carriedFit, copyFit, beatFit, messageFit, linkFit}
+use Rattle.book.specs.Layout.{end, copyKind, beatKind, kindOf, beatOf, recordOf, linkRoom, held, taken, slot}
+use Rattle.fit.specs.Fit.{carriedFit, copyFit, beatFit, messageFit, linkFit}
 
 module _ (n : Counts) (s from : ℕ) (m : List ℕ) where
   no-copy : (kindOf m ≡ copyKind → ⊥) → copyFit n s from m ≡ false

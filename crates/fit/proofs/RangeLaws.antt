@@ -15,7 +15,8 @@ use Rattle.order.proofs.LoopLaws.{every-at, every-intro}
 use Rattle.order.proofs.VectorLaws.{covered-at, covered-intro, covered-same}
 use Rattle.book.specs.Words.{part}
 use Rattle.book.proofs.WordsLaws.{part-at, part-lent}
-use Rattle.fit.specs.Fit.{end, inRange, othersInRange}
+use Rattle.book.specs.Layout.{end}
+use Rattle.fit.specs.Fit.{inRange, othersInRange}
 
 ends-at : (x : ℕ) → x < 4 → getD (end ∷ end ∷ end ∷ end ∷ []) x 0 ≡ end
 unfolding every

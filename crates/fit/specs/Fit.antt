@@ -10,12 +10,8 @@ use Rattle.order.specs.Loops.{every}
 use Rattle.order.specs.Vector.{Vec, covered, zeros}
 use Rattle.order.specs.Record.{mostDepots, bearingOf, originOf, vectorOf}
 use Rattle.book.specs.declared.parts.Counts.{Counts}
-use Rattle.book.specs.Layout.{bookWords, mostShelves, mostCrews, bearingRoom, linkRoom, countsOf, home, crewVector, clock, stable, seen, linkOf, held, taken, slot, stored}
+use Rattle.book.specs.Layout.{bookWords, end, mostShelves, mostCrews, bearingRoom, linkRoom, countsOf, home, crewVector, clock, stable, seen, linkOf, held, taken, slot, stored}
 use Rattle.book.specs.Layout.{copyKind, beatKind, kindOf, beatOf, recordOf}
-
--- the end of every clock, stamp and vector entry
-abbrev pub end : ℕ
-end = 2147483647
 
 -- how many bearings a register may have
 abbrev pub mostBearings : ℕ

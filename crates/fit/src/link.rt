@@ -1,10 +1,12 @@
 // Links: their heads and their messages.
-use crate::version::END;
 use crate::version::carried_fits;
 use book::layout::BEAT;
 use book::layout::COPY;
+use book::layout::END;
 use book::layout::LINK_ROOM;
 use book::layout::Link;
+use book::layout::SLOT_RECORD;
+use book::layout::SLOT_STAMP;
 use book::layout::SLOT_WORDS;
 use book::numbers::Depot;
 use book::numbers::Shelf;
@@ -27,7 +29,7 @@ fn copy_fits(message: &[u32], n: Counts, s: Shelf, from: Depot) -> bool
     if message[0] != COPY {
         return false;
     }
-    carried_fits(&message[1..SLOT_WORDS], n, s, from)
+    carried_fits(&message[SLOT_RECORD..SLOT_WORDS], n, s, from)
 }
 
 // Whether a message is a heartbeat in range or such a copy.
@@ -37,12 +39,12 @@ fn message_fits(message: &[u32], n: Counts, s: Shelf, from: Depot) -> bool
 {
     let kind = message[0];
     if kind == BEAT {
-        return message[1] <= END;
+        return message[SLOT_STAMP] <= END;
     }
     if kind != COPY {
         return false;
     }
-    carried_fits(&message[1..SLOT_WORDS], n, s, from)
+    carried_fits(&message[SLOT_RECORD..SLOT_WORDS], n, s, from)
 }
 
 // Whether the first `count` messages of a link are such copies.

@@ -1,5 +1,5 @@
 // Counts, crews and shelves.
-use crate::version::END;
+use book::layout::END;
 use book::layout::clock_at;
 use book::layout::crew_at;
 use book::layout::home_at;

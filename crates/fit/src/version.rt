@@ -1,4 +1,5 @@
 // Versions: stored, and carried by a link.
+use book::layout::END;
 use book::layout::stored_at;
 use book::numbers::Bearing;
 use book::numbers::Depot;
@@ -18,9 +19,6 @@ ghost use Rattle.order.specs.Record.{mostDepots, recordWords, originOf, vectorO
 ghost use Rattle.book.specs.Layout.{bookWords, bearingRoom};
 ghost use Rattle.fit.specs.Fit.{carriedFit, keptFit, storedFit};
 ghost use Rattle.fit.specs.Look.{highest, entryOf};
-
-// The end of every clock, stamp and vector entry.
-pub const END: u32 = 2147483647;
 
 // What one look over a record's entries finds: the highest entry, the origin, and the stamp, which is the origin's entry, or 0 where the
 // origin is no depot.

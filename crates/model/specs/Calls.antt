@@ -8,6 +8,7 @@ use lib.ListN.{length, getD}
 use Rattle.order.specs.Loops.{every, pick}
 use Rattle.order.specs.Vector.{Vec, merged, zeros}
 use Rattle.order.specs.Order.{above}
+use Rattle.model.specs.Parts.{mostDepots, mostShelves, mostBearings, mostCrews}
 use Rattle.model.specs.Parts.{Counts, Version, Write, Message, copy, heartbeat, Shelf, State, put, rank, fresh, setShelf, setCrew, end}
 use Rattle.model.specs.Rules.{settled, settle, keep, send, roomy, taking, lowestSeen}
 
@@ -58,7 +59,7 @@ within x most = leb 1 x && leb x most
 
 unfoldable pub setup : Counts → List ℕ → ℕ
 setup π homes = first
-    ((not (within (π .depots) 4 && (within (π .shelves) 4 && (within (π .bearings) 64 && (within (π .crews) 16 && eqb (length homes) (π .crews))))), 11)
+    ((not (within (π .depots) mostDepots && (within (π .shelves) mostShelves && (within (π .bearings) mostBearings && (within (π .crews) mostCrews && eqb (length homes) (π .crews))))), 11)
     ∷ ((not (every (π .crews) (λ c. ltb (getD homes c 0) (π .depots))), 2)
     ∷ []))
 

@@ -16,6 +16,19 @@ pub record Counts : Type 0 where
   pub bearings : ℕ
   pub crews : ℕ
 
+-- how many of each a register may have; at least one
+abbrev pub mostDepots : ℕ
+mostDepots = 4
+
+abbrev pub mostShelves : ℕ
+mostShelves = 4
+
+abbrev pub mostBearings : ℕ
+mostBearings = 64
+
+abbrev pub mostCrews : ℕ
+mostCrews = 16
+
 -- entries, clocks and stamps go from 0 to here
 unfoldable pub end : ℕ
 end = 2147483647

@@ -22,7 +22,7 @@ use Rattle.register.specs.declared.check.AskCheck.{AskCheck}
 use Rattle.register.specs.declared.check.LinkCheck.{LinkCheck}
 use Rattle.register.specs.Answers.{refusalOf, answerOf, writeRefused}
 use Rattle.register.specs.Table.{first}
-use Rattle.register.specs.Checks.{placeOf, askedOf, linkOfNumber}
+use Rattle.register.specs.Checks.{placeOfNumber, askedOf, linkOfNumber}
 use Rattle.register.specs.Promises.{after}
 use Rattle.register.proofs.TableLaws.{chose-first, chose-second, first-stop, first-next}
 
@@ -71,15 +71,15 @@ first-keeps (t ∷ a) b h =
 
 -- ---- what the shared checks tell
 
-pub bad-place : (n d s : ℕ) {x : PlaceCheck} (r : Refusal) → x ≡ placeOf n d s → x ≡ PlaceCheck.Bad r → (eqb n 0 ≡ false) × (refusalOf n ≡ r)
-unfolding placeOf
+pub bad-place : (n d s : ℕ) {x : PlaceCheck} (r : Refusal) → x ≡ placeOfNumber n d s → x ≡ PlaceCheck.Bad r → (eqb n 0 ≡ false) × (refusalOf n ≡ r)
+unfolding placeOfNumber
 bad-place n d s r p q =
     let h = chose-second (PlaceCheck.Good (record { 0 = d }) (record { 0 = s })) (PlaceCheck.Bad (refusalOf n)) (PlaceCheck.Bad r) (λ e. let z : _≡_ {A = ℕ} 0 1 = cc in omega arith) (sym p ∙ q) in
     let e = h .1 in
     (h .0, cc)
 
-pub good-place : (n d s : ℕ) {x : PlaceCheck} (a : Depot) (b : Shelf) → x ≡ placeOf n d s → x ≡ PlaceCheck.Good a b → (n ≡ 0) × (record { 0 = d } ≡ a) × (record { 0 = s } ≡ b)
-unfolding placeOf
+pub good-place : (n d s : ℕ) {x : PlaceCheck} (a : Depot) (b : Shelf) → x ≡ placeOfNumber n d s → x ≡ PlaceCheck.Good a b → (n ≡ 0) × (record { 0 = d } ≡ a) × (record { 0 = s } ≡ b)
+unfolding placeOfNumber
 good-place n d s a b p q =
     let h = chose-first (PlaceCheck.Good (record { 0 = d }) (record { 0 = s })) (PlaceCheck.Bad (refusalOf n)) (PlaceCheck.Good a b) (λ e. let z : _≡_ {A = ℕ} 0 1 = cc in omega arith) (sym p ∙ q) in
     let e = h .1 in

@@ -14,8 +14,8 @@ use Rattle.order.proofs.BoolLaws.{and-left, and-right, and-intro, or-cases, or-
 use Rattle.order.proofs.LoopLaws.{every-at, every-intro}
 use Rattle.order.proofs.VectorLaws.{zeros-at}
 use Rattle.book.specs.declared.parts.Counts.{Counts}
-use Rattle.book.specs.Layout.{copyKind, beatKind, kindOf, beatOf, recordOf}
-use Rattle.fit.specs.Fit.{end, inRange, versionFit, carriedFit, copyFit, beatFit, messageFit, keptFit}
+use Rattle.book.specs.Layout.{end, copyKind, beatKind, kindOf, beatOf, recordOf}
+use Rattle.fit.specs.Fit.{inRange, versionFit, carriedFit, copyFit, beatFit, messageFit, keptFit}
 use Rattle.shelf.specs.Send.{stampFrom}
 use Rattle.register.proofs.FitParts.{IsCopy, IsMessage}
 

@@ -14,8 +14,8 @@ use Rattle.order.proofs.BoolLaws.{and-left, and-right, and-intro, or-cases, or-
 use Rattle.order.proofs.LoopLaws.{every-at, every-intro}
 use Rattle.order.proofs.VectorLaws.{covered-at, covered-intro}
 use Rattle.book.specs.declared.parts.Counts.{Counts}
-use Rattle.book.specs.Layout.{countsOf, home, crewVector, clock, stable, seen, linkOf, held, taken, slot, stored}
-use Rattle.fit.specs.Fit.{end, countsFit, homeFit, inRange, othersInRange, crewFit, shelfFit, copyFit, messageFit, linkFit, keptFit, storedFit, Within}
+use Rattle.book.specs.Layout.{end, countsOf, home, crewVector, clock, stable, seen, linkOf, held, taken, slot, stored}
+use Rattle.fit.specs.Fit.{countsFit, homeFit, inRange, othersInRange, crewFit, shelfFit, copyFit, messageFit, linkFit, keptFit, storedFit, Within}
 use Rattle.fit.specs.Fit.{homesFit, crewsFit, shelvesFit, linksFit, storesFit, partsFit, fit}
 use Rattle.fit.proofs.FitLaws.{fit-open, counts-within}
 use Rattle.shelf.proofs.AllLaws.{AllOf, all-slots, all-slots-at}

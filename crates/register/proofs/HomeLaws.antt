@@ -26,9 +26,8 @@ use Rattle.register.specs.declared.answer.ReadAnswer.{ReadAnswer}
 use Rattle.register.specs.Answers.{cut, tells}
 use Rattle.register.specs.Calls.{settledHome, readRecord, readBook}
 use Rattle.register.proofs.FitParts.{Whole}
-use Rattle.register.proofs.FitSettled.{whole-ready}
-use Rattle.register.proofs.FitKept.{shelf-in}
-use Rattle.register.proofs.FitWrite.{cut-at}
+use Rattle.register.proofs.FitReady.{whole-ready, shelf-in}
+use Rattle.register.proofs.MadeLaws.{cut-at}
 
 pub merged-same : (n d at : ℕ) (u v : Vec) (l : List ℕ) → ((x : ℕ) → x < n → u x ≡ v x) → mergedAt n d u at l ≡ mergedAt n d v at l
 unfolding mergedAt

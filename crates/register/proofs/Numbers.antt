@@ -12,8 +12,8 @@ use Rattle.order.specs.Loops.{pick, every}
 use Rattle.order.proofs.BoolLaws.{both-ways}
 use Rattle.order.proofs.LoopLaws.{every-at}
 use Rattle.book.specs.declared.parts.Counts.{Counts}
-use Rattle.book.specs.Layout.{bookWords, countsOf, home, crewVector, clock, linkOf, held, taken}
-use Rattle.fit.specs.Fit.{end, countsFit, fit}
+use Rattle.book.specs.Layout.{end, bookWords, countsOf, home, crewVector, clock, linkOf, held, taken}
+use Rattle.fit.specs.Fit.{countsFit, fit}
 use Rattle.shelf.specs.Send.{roomy}
 use Rattle.register.specs.Table.{first, shelfOf, setupNumber, readNumber, writeNumber, tickNumber, takeNumber, refreshNumber}
 

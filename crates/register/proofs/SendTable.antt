@@ -7,8 +7,8 @@ use mathlib.Core.Bool.{true, false, not, _||_}
 use lib.Dec.{leb, ltb, eqb}
 use borrow.Author.Tests.{le-leb, lt-leb, lt-ltb, le-ltb, eq-eqb, ne-eqb}
 use Rattle.order.proofs.BoolLaws.{not-failed, or-next}
-use Rattle.book.specs.Layout.{countsOf, home, crewVector, clock, linkOf, held, taken}
-use Rattle.fit.specs.Fit.{end, fit}
+use Rattle.book.specs.Layout.{end, countsOf, home, crewVector, clock, linkOf, held, taken}
+use Rattle.fit.specs.Fit.{fit}
 use Rattle.shelf.specs.Send.{roomy}
 use Rattle.register.specs.Table.{first, shelfOf, readNumber, refreshNumber, tickNumber, takeNumber, writeNumber}
 use Rattle.register.specs.Checks.{linkNumber}

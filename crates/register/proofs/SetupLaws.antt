@@ -14,6 +14,7 @@ use Rattle.order.specs.Loops.{every}
 use Rattle.order.proofs.BoolLaws.{pick-false, not-failed, or-left, or-right, or-next}
 use Rattle.book.specs.declared.parts.Counts.{Counts}
 use Rattle.book.specs.Words.{put}
+use Rattle.book.specs.Layout.{homeAt}
 use Rattle.book.proofs.WordsLaws.{length-put, put-in}
 use Rattle.fit.specs.Fit.{countsFit}
 use Rattle.register.specs.Table.{setupNumber}
@@ -64,11 +65,11 @@ put-whole l v e =
 
 pub fresh-words :
     (l : List ℕ) (n : Counts) (homes : List ℕ) {a b c : List ℕ} → length l ≡ 16384 → a ≡ put l 0 (replicate 16384 0) →
-    b ≡ put a 0 (n .depots ∷ n .shelves ∷ n .bearings ∷ n .crews ∷ []) → c ≡ put b 4 homes → c ≡ setUp n homes
+    b ≡ put a 0 (n .depots ∷ n .shelves ∷ n .bearings ∷ n .crews ∷ []) → c ≡ put b (homeAt 0) homes → c ≡ setUp n homes
 unfolding setUp
 fresh-words l n homes e p q r =
     r
-    ∙ ap (λ (m : List ℕ). put m 4 homes)
+    ∙ ap (λ (m : List ℕ). put m (homeAt 0) homes)
     (q ∙ ap (λ (m : List ℕ). put m 0 (n .depots ∷ n .shelves ∷ n .bearings ∷ n .crews ∷ [])) (p ∙ put-whole l _ (e ∙ sym (length-replicate {A = ℕ} 16384 0))))
 
 -- ---- the promise

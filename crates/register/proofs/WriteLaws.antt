@@ -1,10 +1,10 @@
 -- The steps of a write, put together to what it promises.
 -- Assumes nothing.
-use Prim.Native.Nat.{ℕ, _+_, _-_, _%_, _≤_, _<_}
+use Prim.Native.Nat.{ℕ, _+_, _-_, _≤_, _<_}
 use native.Mathlib.Nat.{lt-of-lt-of-le}
-use mathlib.Core.Path.{_≡_, refl, sym, _∙_, ap, subst, subst₃}
+use mathlib.Core.Path.{_≡_, sym, _∙_, ap, subst, subst₃}
 use mathlib.Core.Logic.{_⊎_, inl, inr}
-use mathlib.Core.List.{List, [], _∷_}
+use mathlib.Core.List.{List, _∷_}
 use mathlib.Core.Bool.{Bool, true, false}
 use lib.Dec.{eqb}
 use lib.ListN.{length, getD, set, take, drop}
@@ -15,7 +15,6 @@ use Rattle.order.specs.Vector.{Vec, vectorIn}
 use Rattle.order.specs.Order.{above}
 use Rattle.order.specs.Record.{bearingOf, rankOf}
 use Rattle.order.proofs.BoolLaws.{eq-or-ne, pick-true, pick-false}
-use Rattle.book.specs.declared.parts.Counts.{Counts}
 use Rattle.book.specs.Words.{put}
 use Rattle.book.specs.Layout.{copyKind, crewAt, storedAt, countsOf, home, crewVector, stored}
 use Rattle.book.proofs.WordsLaws.{part-from}
@@ -26,12 +25,10 @@ use Rattle.register.specs.Answers.{cut, writes}
 use Rattle.register.specs.declared.answer.WriteAnswer.{WriteAnswer}
 use Rattle.register.specs.Checks.{MayWrite}
 use Rattle.register.specs.Table.{shelfOf}
-use Rattle.register.specs.Calls.{settledHome, newStamp, withEntry, versionWords, madeVector, madeRecord, writtenCrew, isCurrent, writeBook}
+use Rattle.register.specs.Calls.{settledHome, newStamp, withEntry, madeVector, madeRecord, writtenCrew, isCurrent, writeBook}
 use Rattle.register.proofs.Numbers.{WriteDone, write-done}
 use Rattle.register.proofs.FitParts.{Whole, whole-open}
-use Rattle.register.proofs.FitSettled.{whole-ready}
-use Rattle.register.proofs.FitKept.{shelf-in}
-use Rattle.register.proofs.FitWrite.{free, length-made, made-bearing}
+use Rattle.register.proofs.FitReady.{whole-ready, shelf-in, free}
 use Rattle.register.proofs.HomeLaws.{cut-same, four-at}
 
 -- ---- the version

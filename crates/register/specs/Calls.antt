@@ -11,7 +11,7 @@ use Rattle.order.specs.Order.{above}
 use Rattle.order.specs.Record.{vectorOf, rankOf}
 use Rattle.book.specs.declared.parts.Counts.{Counts}
 use Rattle.book.specs.Words.{put}
-use Rattle.book.specs.Layout.{bookWords, crewAt, copyKind, countsOf, home, crewVector, clock, stored}
+use Rattle.book.specs.Layout.{bookWords, homeAt, crewAt, copyKind, countsOf, home, crewVector, clock, stored}
 use Rattle.shelf.specs.Show.{keptIn, settled}
 use Rattle.shelf.specs.Send.{sent, beat, took, lowestSeen}
 use Rattle.register.specs.declared.calls.write.Version.{Version}
@@ -20,7 +20,7 @@ use Rattle.register.specs.Table.{shelfOf}
 
 -- setup: the four counts, the homes, and 0 everywhere else
 unfoldable pub setUp : Counts → List ℕ → List ℕ
-setUp n homes = put (put (replicate bookWords 0) 0 (n .depots ∷ n .shelves ∷ n .bearings ∷ n .crews ∷ [])) 4 homes
+setUp n homes = put (put (replicate bookWords 0) 0 (n .depots ∷ n .shelves ∷ n .bearings ∷ n .crews ∷ [])) (homeAt 0) homes
 
 -- crew c's home shelf for bearing k, raised with the crew's vector and shown
 unfoldable pub settledHome : List ℕ → ℕ → ℕ → List ℕ

@@ -15,8 +15,8 @@ use Rattle.register.specs.Table.{first, shelfOf, writeNumber}
 use Rattle.register.specs.Answers.{refusalOf}
 
 -- a depot and a shelf, where the number is 0
-unfoldable pub placeOf : ℕ → ℕ → ℕ → PlaceCheck
-placeOf number d s = pick (eqb number 0) (PlaceCheck.Good (record { 0 = d }) (record { 0 = s })) (PlaceCheck.Bad (refusalOf number))
+unfoldable pub placeOfNumber : ℕ → ℕ → ℕ → PlaceCheck
+placeOfNumber number d s = pick (eqb number 0) (PlaceCheck.Good (record { 0 = d }) (record { 0 = s })) (PlaceCheck.Bad (refusalOf number))
 
 -- a crew and a bearing, where the number is 0
 unfoldable pub askedOf : ℕ → ℕ → ℕ → AskCheck

@@ -8,8 +8,8 @@ use lib.Dec.{eqb, ltb, leb}
 use lib.ListN.{length, getD}
 use Rattle.order.specs.Loops.{every, pick}
 use Rattle.book.specs.declared.parts.Counts.{Counts}
-use Rattle.book.specs.Layout.{bookWords, countsOf, home, crewVector, clock, linkOf, held, taken}
-use Rattle.fit.specs.Fit.{end, countsFit, fit}
+use Rattle.book.specs.Layout.{end, bookWords, countsOf, home, crewVector, clock, linkOf, held, taken}
+use Rattle.fit.specs.Fit.{countsFit, fit}
 use Rattle.shelf.specs.Send.{roomy}
 
 -- the number of the first test that holds, 0 where none does

@@ -12,7 +12,7 @@ use book::parts::counts_of;
 use fit::whole::is_fit;
 ghost use mathlib.Core.Path.{_≡_};
 ghost use Rattle.register.specs.Table.{readNumber, refreshNumber};
-ghost use Rattle.register.specs.Checks.{placeOf, askedOf, linkNumber, linkOfNumber};
+ghost use Rattle.register.specs.Checks.{placeOfNumber, askedOf, linkNumber, linkOfNumber};
 
 // A depot and a shelf that a call names.
 pub enum PlaceCheck {
@@ -34,7 +34,7 @@ pub enum LinkCheck {
 
 // BAD BOOK, BAD DEPOT, BAD SHELF.
 pub fn check_place(book: &[u32], depot: u32, shelf: u32) -> PlaceCheck
-    ensures { λ r. ⌜ r ≡ placeOf (refreshNumber (now (book .entry)) depot shelf) depot shelf ⌝ }
+    ensures { λ r. ⌜ r ≡ placeOfNumber (refreshNumber (now (book .entry)) depot shelf) depot shelf ⌝ }
 {
     if !is_fit(book) {
         return PlaceCheck::Bad(Refusal::BadBook);

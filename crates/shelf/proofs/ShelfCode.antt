@@ -15,14 +15,14 @@ use Rattle.order.specs.Loops.{times, pick}
 use Rattle.order.specs.Order.{above}
 use Rattle.order.specs.Vector.{Vec, vectorIn, covered}
 use Rattle.order.proofs.VectorLaws.{covered-same}
-use Rattle.order.specs.Record.{bearingOf, vectorOf, rankOf}
+use Rattle.order.specs.Record.{recordWords, bearingOf, vectorOf, rankOf}
 use Rattle.order.proofs.BoolLaws.{pick-true, pick-false, and-intro, and-stop}
 use Rattle.order.proofs.LoopLaws.{times-none, times-more}
 use Rattle.book.specs.Words.{part, put}
-use Rattle.book.specs.Layout.{slotAt, storedAt, stableAt, seenAt, heldAt, takenAt, linkOf, beatKind, stored, stable, slot, held, taken, kindOf, recordOf}
+use Rattle.book.specs.Layout.{end, slotRecord, slotVector, slotStamp, slotAt, storedAt, stableAt, seenAt, heldAt, takenAt, linkOf, beatKind, stored, stable, slot, held, taken, kindOf, recordOf}
 use Rattle.book.proofs.WordsLaws.{part-from, part-at, part-part}
 use Rattle.shelf.specs.Asks.{Sound, Ready, Free}
-use Rattle.shelf.specs.Send.{end, sentTo, stampFrom, movedOn, took, lowest, lowestSeen}
+use Rattle.shelf.specs.Send.{sentTo, stampFrom, movedOn, took, lowest, lowestSeen}
 use Rattle.shelf.specs.Show.{Sweep, keptIn, closedUp, withHead, sweepOne, swept, sweptUp, shownLink}
 use Rattle.shelf.proofs.FrameLaws.{swept-kept, swept-later}
 use Rattle.shelf.proofs.ShowFrame.{showTurn, show-turns-sound}
@@ -63,13 +63,13 @@ keep-stays n d l r c t = sym (pick-false _ _ (c ∙ t))
 -- a copy's vector and the stable vector, as the parts that are lent
 pub covered-lent :
     (n d s q i : ℕ) (l : List ℕ) {at to : ℕ} {own : ℕ} {r : Bool} → n ≤ 4 → at ≡ slotAt q i → to ≡ stableAt d s → own ≡ d →
-    r ≡ covered n own (vectorIn (take (at + 10 - (at + 6)) (drop (at + 6) l))) (vectorIn (take (to + 4 - to) (drop to l))) →
+    r ≡ covered n own (vectorIn (take (at + 10 - (at + slotVector)) (drop (at + slotVector) l))) (vectorIn (take (to + 4 - to) (drop to l))) →
     covered n d (vectorOf (recordOf (slot l q i))) (stable l d s) ≡ r
 covered-lent n d s q i l {at} {to} h a t o e =
     sym (e ∙ ap (λ (x : ℕ). covered n x copied stands) o ∙ covered-same n d copied stands (vectorOf (recordOf (slot l q i))) (stable l d s) first second)
   where
     copied : Vec
-    copied = vectorIn (take (at + 10 - (at + 6)) (drop (at + 6) l))
+    copied = vectorIn (take (at + 10 - (at + slotVector)) (drop (at + slotVector) l))
 
     stands : Vec
     stands = vectorIn (take (to + 4 - to) (drop to l))
@@ -79,9 +79,9 @@ covered-lent n d s q i l {at} {to} h a t o e =
 
     first : (x : ℕ) → x < n → copied x ≡ vectorOf (recordOf (slot l q i)) x
     first x k =
-        let place : at + 6 + x ≡ slotAt q i + (1 + (5 + x)) = omega arith in
-        getD-take (at + 10 - (at + 6)) (drop (at + 6) l) x 0 (omega arith)
-        ∙ getD-drop (at + 6) l x 0
+        let place : at + slotVector + x ≡ slotAt q i + (1 + (5 + x)) = omega arith in
+        getD-take (at + 10 - (at + slotVector)) (drop (at + slotVector) l) x 0 (omega arith)
+        ∙ getD-drop (at + slotVector) l x 0
         ∙ ap (λ (y : ℕ). getD l y 0) place
         ∙ sym (in-slot x (omega arith))
 
@@ -89,12 +89,12 @@ covered-lent n d s q i l {at} {to} h a t o e =
     second x k = getD-take (to + 4 - to) (drop to l) x 0 (omega arith) ∙ getD-drop to l x 0 ∙ ap (λ (y : ℕ). getD l (y + x) 0) t
 
 -- a copy's record stands one word behind its kind
-pub record-place : (q i : ℕ) (l : List ℕ) {at : ℕ} → at ≡ slotAt q i → part l (at + 1) 9 ≡ recordOf (slot l q i)
-record-place q i l {at} e = ap (λ (a : ℕ). part l (a + 1) 9) e ∙ sym (part-part l (slotAt q i) 10 1 9 (lit≤ tt))
+pub record-place : (q i : ℕ) (l : List ℕ) {at : ℕ} → at ≡ slotAt q i → part l (at + slotRecord) recordWords ≡ recordOf (slot l q i)
+record-place q i l {at} e = ap (λ (a : ℕ). part l (a + slotRecord) recordWords) e ∙ sym (part-part l (slotAt q i) 10 1 9 (lit≤ tt))
 
-pub bearing-place : (q i : ℕ) (l : List ℕ) {at : ℕ} → at ≡ slotAt q i → getD l (at + 1) 0 ≡ bearingOf (recordOf (slot l q i))
+pub bearing-place : (q i : ℕ) (l : List ℕ) {at : ℕ} → at ≡ slotAt q i → getD l (at + slotRecord) 0 ≡ bearingOf (recordOf (slot l q i))
 bearing-place q i l {at} e =
-    ap (λ (x : ℕ). getD l x 0) (sym (add-zero (at + 1))) ∙ sym (part-at l (at + 1) 9 0 (lit≤ tt)) ∙ ap bearingOf (record-place q i l e)
+    ap (λ (x : ℕ). getD l x 0) (sym (add-zero (at + slotRecord))) ∙ sym (part-at l (at + slotRecord) recordWords 0 (lit≤ tt)) ∙ ap bearingOf (record-place q i l e)
 
 pub sweep-shown :
     (n d s q i kept : ℕ) (l : List ℕ) {b : Bool} {m : List ℕ} → covered n d (vectorOf (recordOf (slot l q i))) (stable l d s) ≡ b → b ≡ true →
@@ -182,17 +182,17 @@ turn-room n d s stamp i m l size h k e o =
 pub kind-place : (q i : ℕ) (l : List ℕ) {at : ℕ} → at ≡ slotAt q i → getD l at 0 ≡ kindOf (slot l q i)
 kind-place q i l {at} e = ap (λ (x : ℕ). getD l x 0) (e ∙ sym (add-zero (slotAt q i))) ∙ sym (part-at l (slotAt q i) 10 0 (lit≤ tt))
 
-pub beat-stamp : (q i from : ℕ) (l : List ℕ) {at : ℕ} {b : Bool} → at ≡ slotAt q i → b ≡ eqb (kindOf (slot l q i)) beatKind → b ≡ true → getD l (at + 1) 0 ≡ stampFrom from (slot l q i)
+pub beat-stamp : (q i from : ℕ) (l : List ℕ) {at : ℕ} {b : Bool} → at ≡ slotAt q i → b ≡ eqb (kindOf (slot l q i)) beatKind → b ≡ true → getD l (at + slotStamp) 0 ≡ stampFrom from (slot l q i)
 unfolding stampFrom
 beat-stamp q i from l {at} e b t =
-    ap (λ (x : ℕ). getD l (x + 1) 0) e ∙ sym (part-at l (slotAt q i) 10 1 (lit≤ tt)) ∙ sym (pick-true _ _ (sym b ∙ t))
+    ap (λ (x : ℕ). getD l (x + slotStamp) 0) e ∙ sym (part-at l (slotAt q i) 10 slotStamp (lit≤ tt)) ∙ sym (pick-true _ _ (sym b ∙ t))
 
 pub copy-stamp :
     (q i : ℕ) (l : List ℕ) {from own at : ℕ} {b : Bool} → from < 4 → at ≡ slotAt q i → own ≡ from → b ≡ eqb (kindOf (slot l q i)) beatKind → b ≡ false →
-    getD l (at + 6 + own) 0 ≡ stampFrom from (slot l q i)
+    getD l (at + slotVector + own) 0 ≡ stampFrom from (slot l q i)
 unfolding stampFrom
 copy-stamp q i l {from} {own} {at} h e o b t =
-    let place : at + 6 + own ≡ slotAt q i + (1 + (5 + from)) = omega arith in
+    let place : at + slotVector + own ≡ slotAt q i + (1 + (5 + from)) = omega arith in
     ap (λ (x : ℕ). getD l x 0) place
     ∙ sym (part-at (slot l q i) 1 9 (5 + from) (omega arith) ∙ part-at l (slotAt q i) 10 (1 + (5 + from)) (omega arith))
     ∙ sym (pick-false _ _ (sym b ∙ t))

@@ -9,12 +9,8 @@ use Rattle.order.specs.Loops.{times, every, pick}
 use Rattle.order.specs.Vector.{Vec}
 use Rattle.order.specs.Record.{vectorOf}
 use Rattle.book.specs.Words.{put}
-use Rattle.book.specs.Layout.{linkRoom, beatKind, clockAt, seenAt, slotAt, heldAt, takenAt, linkOf, seen, held, taken, slot, kindOf, beatOf, recordOf}
+use Rattle.book.specs.Layout.{end, linkRoom, beatKind, clockAt, seenAt, slotAt, heldAt, takenAt, linkOf, seen, held, taken, slot, kindOf, beatOf, recordOf}
 use Rattle.shelf.specs.Show.{closedUp}
-
--- the end of every clock and stamp
-abbrev pub end : ℕ
-end = 2147483647
 
 -- every link out of shelf s of depot d has room for one more message
 unfoldable pub roomy : ℕ → ℕ → ℕ → List ℕ → Bool

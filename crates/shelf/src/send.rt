@@ -2,8 +2,11 @@
 use crate::link::close_up;
 use crate::show::word;
 use book::layout::BEAT;
+use book::layout::END;
 use book::layout::LINK_ROOM;
 use book::layout::Link;
+use book::layout::SLOT_STAMP;
+use book::layout::SLOT_VECTOR;
 use book::layout::clock_at;
 use book::layout::seen_at;
 use book::numbers::Depot;
@@ -25,9 +28,6 @@ ghost use Rattle.book.specs.Layout.{bookWords, slotWords, links, linkRoom, most
 ghost use Rattle.shelf.specs.Asks.{Free};
 ghost use Rattle.shelf.specs.Show.{closedUp};
 ghost use Rattle.shelf.specs.Send.{roomy, sentTo, sent, stampFrom, took, lowest, lowestSeen, fourOf};
-
-// The end of every clock and stamp.
-pub const END: u32 = 2147483647;
 
 // Whether the link of a shelf from one depot to another has room; a depot has no link to itself.
 fn has_room(book: &[u32], d: Depot, s: Shelf, to: Depot) -> bool
@@ -98,9 +98,9 @@ fn stamp_of(book: &[u32], q: Link, i: usize, from: Depot) -> u32
 {
     let at = q.slot_at(i);
     if is_beat(book, q, i) {
-        return book[at + 1];
+        return book[at + SLOT_STAMP];
     }
-    book[at + 6 + from.index()]
+    book[at + SLOT_VECTOR + from.index()]
 }
 
 // The first untaken message of a link is gone, where it is a heartbeat; else it is one of the taken.

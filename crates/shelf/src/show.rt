@@ -2,6 +2,8 @@
 use crate::link::close_up;
 use book::layout::BEARING_ROOM;
 use book::layout::Link;
+use book::layout::SLOT_RECORD;
+use book::layout::SLOT_VECTOR;
 use book::layout::SLOT_WORDS;
 use book::layout::stable_at;
 use book::layout::stored_at;
@@ -23,17 +25,18 @@ ghost use Prim.Native.Nat.{ℕ, _+_, _≤_, _<_};
 ghost use lib.Dec.{eqb};
 ghost use Rattle.order.specs.Loops.{pick};
 ghost use lib.ListN.{length};
-ghost use Rattle.order.specs.Record.{mostDepots, bearingOf, vectorOf};
+ghost use Rattle.order.specs.Record.{recordWords, mostDepots, bearingOf, vectorOf};
 ghost use Rattle.order.specs.Vector.{vectorIn, covered, mergedAt};
 ghost use Rattle.book.specs.Words.{part, put};
-ghost use Rattle.book.specs.Layout.{bookWords, links, linkRoom, bearingRoom, mostShelves, stableAt, slotAt, slot, stable, recordOf, linkOf};
+ghost use Rattle.book.specs.Layout.{bookWords, links, linkRoom, bearingRoom, mostShelves, stableAt, storedAt, slotAt, slot, stable, recordOf, linkOf};
 ghost use Rattle.shelf.specs.Show.{keptIn, sweepOne, swept, shownLink, shown, settled};
 ghost use Rattle.shelf.specs.Asks.{Sound, Ready};
 
 // The record that stands at a place replaces the stored version of its bearing, which is given, if it is greater.
 pub fn keep(book: &mut [u32], n: usize, d: Depot, k: Bearing, at: usize)
-    requires { ⌜ (length (now book) ≡ bookWords) × (n ≤ mostDepots) × (d .0 < mostDepots) × (k .0 < bearingRoom) × (at + 9 ≤ 10596) × (bearingOf (part (now book) at 9) ≡ k .0) ⌝ }
-    ensures { λ r. ⌜ now (book .exit) ≡ keptIn n (d .0) (part (now (book .entry)) at 9) (now (book .entry)) ⌝ }
+    requires { ⌜ (length (now book) ≡ bookWords) × (n ≤ mostDepots) × (d .0 < mostDepots) × (k .0 < bearingRoom)
+        × (at + recordWords ≤ storedAt 0 0) × (bearingOf (part (now book) at recordWords) ≡ k .0) ⌝ }
+    ensures { λ r. ⌜ now (book .exit) ≡ keptIn n (d .0) (part (now (book .entry)) at recordWords) (now (book .entry)) ⌝ }
 {
     let to = stored_at(d, k);
     let end = at + RECORD_WORDS;
@@ -49,7 +52,7 @@ fn is_slot_covered(book: &[u32], n: usize, d: Depot, s: Shelf, q: Link, i: usize
     ensures { λ r. ⌜ covered n (d .0) (vectorOf (recordOf (slot (now (book .entry)) (q .0) i))) (stable (now (book .entry)) (d .0) (s .0)) ≡ r ⌝ }
 {
     let at = q.slot_at(i);
-    let vector = at + 6;
+    let vector = at + SLOT_VECTOR;
     let end = at + SLOT_WORDS;
     let to = stable_at(d, s);
     let to_end = to + MOST_DEPOTS;
@@ -72,7 +75,7 @@ fn keep_slot(book: &mut [u32], n: usize, d: Depot, q: Link, i: usize)
     requires { ⌜ (length (now book) ≡ bookWords) × (n ≤ mostDepots) × (d .0 < mostDepots) × (q .0 < links) × (i < linkRoom) × (bearingOf (recordOf (slot (now book) (q .0) i)) < bearingRoom) ⌝ }
     ensures { λ r. ⌜ now (book .exit) ≡ keptIn n (d .0) (recordOf (slot (now (book .entry)) (q .0) i)) (now (book .entry)) ⌝ }
 {
-    let version = q.slot_at(i) + 1;
+    let version = q.slot_at(i) + SLOT_RECORD;
     let k = Bearing::nth(wide(book[version]), BEARING_ROOM);
     keep(book, n, d, k, version);
 }

@@ -34,7 +34,9 @@ slice-aggregate-write-all : tie.Need-slice-aggregate-write-all Inv-loop μ-loop
 slice-aggregate-write-all c = sym (length-take-le _ _ (c .before .before .before .before .before .before .before .before .before .answer-piece .ensures .1 .1 .1))
 
 loop-less : tie.Need-loop-less Inv-loop μ-loop
-loop-less c = let h : 0 < c .before .before .before .before .before .before .before .before .before .before .before .before .before .before .before .before .before .before .loop .pieces = ltb-true 0 (c .before .before .before .before .before .before .before .before .before .before .before .before .before .before .before .before .before .before .loop .pieces) (c .before .before .before .before .before .before .before .before .before .before .before .before .before .before .before .before .if1 .taken) in omega arith
+loop-less c = let h : 0 < c .before .before .before .before .before .before .before .before .before .before .before .before .before .before .before .before .before .before .loop .pieces =
+    ltb-true 0 (c .before .before .before .before .before .before .before .before .before .before .before .before .before .before .before .before .before .before .loop .pieces)
+    (c .before .before .before .before .before .before .before .before .before .before .before .before .before .before .before .before .if1 .taken) in omega arith
 
 loop-again : tie.Need-loop-again Inv-loop μ-loop
 loop-again c =
@@ -54,7 +56,11 @@ finish-requires c κs =
     (inv .1 ∙ pre .0, inv .4, omega (arith, inv .3, pre .2))
 
 slice-reshare-prefix-write-all-2 : tie.Need-slice-reshare-prefix-write-all-2 Inv-loop μ-loop
-slice-reshare-prefix-write-all-2 c = last-room _ _ (c .before .before .before .before .finish .ensures .1) (omega (arith, c .before .before .before .before .before .before .before .before .before .loop .inv .3, c .before .before .before .before .before .before .before .before .before .before .before .before .before .before .pre .2))
+slice-reshare-prefix-write-all-2 c =
+    let call = c .before .before .before .before in
+    let loop = call .before .before .before .before .before in
+    let start = loop .before .before .before .before .before in
+    last-room _ _ (call .finish .ensures .1) (omega (arith, loop .loop .inv .3, start .pre .2))
 
 slice-aggregate-write-all-2 : tie.Need-slice-aggregate-write-all-2 Inv-loop μ-loop
 slice-aggregate-write-all-2 c = sym (length-take-le _ _ (slice-reshare-prefix-write-all-2 (c .before)))

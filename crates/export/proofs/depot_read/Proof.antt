@@ -1,7 +1,7 @@
 -- `export::depot_read` meets its contract: the number, the book and what `out` holds are those of the promise.
 -- Assumes nothing.
 use mathlib.Core.Path.{_≡_, _∙_}
-use Rattle.export.proofs.NumberLaws.{read-under}
+use Rattle.events.proofs.NumberLaws.{read-under}
 use Rattle.export.proofs.OutLaws.{read-number, read-out}
 use borrow.Author.Needs.{needs}
 use Rattle.export.proofs.depot_read.Statement.{statement}

@@ -2,6 +2,7 @@
 use crate::answer::Answer;
 use crate::answer::Refusal;
 use book::layout::BOOK_WORDS;
+use book::layout::HOMES;
 use book::parts::Counts;
 use book::parts::wide;
 use book::words::clear_words;
@@ -58,7 +59,7 @@ fn write_fresh(
     clear_words(book, 0, BOOK_WORDS);
     let counts = [depots, shelves, bearings, crews];
     write_words(book, 0, &counts);
-    write_words(book, 4, homes);
+    write_words(book, HOMES, homes);
 }
 
 // Setup: every clock, vector and stamp 0, links empty, bearings unwritten, unused words 0.

@@ -10,6 +10,8 @@ use crate::calls::home::shelf_for;
 use crate::check::AskCheck;
 use crate::check::check_asked;
 use book::layout::COPY;
+use book::layout::END;
+use book::layout::SLOT_RECORD;
 use book::layout::SLOT_WORDS;
 use book::layout::crew_at;
 use book::layout::stored_at;
@@ -22,7 +24,6 @@ use book::parts::counts_of;
 use book::words::write_words;
 use order::record::RECORD_WORDS;
 use order::record::is_above;
-use shelf::send::END;
 use shelf::send::is_roomy;
 use shelf::send::send;
 ghost use mathlib.Core.Path.{_≡_};
@@ -159,7 +160,7 @@ fn write_version(
 {
     let message = made_copy(book, n, c, k, d, stamp, value);
     stamp_crew(book, n, c, d, s, stamp);
-    let current = keep_record(book, n, d, k, &message[1..SLOT_WORDS]);
+    let current = keep_record(book, n, d, k, &message[SLOT_RECORD..SLOT_WORDS]);
     send(book, n, d, s, stamp, &message);
     answered(current, stamp)
 }

@@ -14,7 +14,9 @@ use Rattle.events.proofs.reply.answer_line.Tie as tie
 slice-write-out : tie.Need-slice-write-out
 slice-write-out c =
     let w = c .before .before .before .before .say .ensures .1 in
-    let h = reading-length (now (c .before .before .before .before .before .before .before .before .before .before .args .book)) (reading (now (c .before .before .before .before .before .before .before .before .before .before .args .line))) in
+    let h =
+    reading-length (now (c .before .before .before .before .before .before .before .before .before .before .args .book))
+    (reading (now (c .before .before .before .before .before .before .before .before .before .before .args .line))) in
     let k = wrote-length w in
     omega (arith, w .after, c .before .before .before .before .before .before .before .before .before .before .pre)
 

@@ -6,22 +6,28 @@ use Rattle.events.proofs.reply.run.Statement.{statement}
 use Rattle.events.proofs.reply.run.Tie as tie
 
 run-setup-requires : tie.Need-run-setup-requires
-run-setup-requires c κs = (enough-as (c .before .before .enum-told .given .1) (c .before .before .before .before .before .before .before .pre .0), c .before .before .before .before .before .before .before .pre .1)
+run-setup-requires c κs =
+    (enough-as (c .before .before .enum-told .given .1) (c .before .before .before .before .before .before .before .pre .0), c .before .before .before .before .before .before .before .pre .1)
 
 run-read-requires : tie.Need-run-read-requires
-run-read-requires c κs = (enough-as (c .before .before .enum-told2 .given .1) (c .before .before .before .before .before .before .before .pre .0), c .before .before .before .before .before .before .before .pre .1)
+run-read-requires c κs =
+    (enough-as (c .before .before .enum-told2 .given .1) (c .before .before .before .before .before .before .before .pre .0), c .before .before .before .before .before .before .before .pre .1)
 
 run-write-requires : tie.Need-run-write-requires
-run-write-requires c κs = (enough-as (c .before .before .enum-told3 .given .1) (c .before .before .before .before .before .before .before .pre .0), c .before .before .before .before .before .before .before .pre .1)
+run-write-requires c κs =
+    (enough-as (c .before .before .enum-told3 .given .1) (c .before .before .before .before .before .before .before .pre .0), c .before .before .before .before .before .before .before .pre .1)
 
 run-tick-requires : tie.Need-run-tick-requires
-run-tick-requires c κs = (enough-as (c .before .before .enum-told4 .given .1) (c .before .before .before .before .before .before .before .pre .0), c .before .before .before .before .before .before .before .pre .1)
+run-tick-requires c κs =
+    (enough-as (c .before .before .enum-told4 .given .1) (c .before .before .before .before .before .before .before .pre .0), c .before .before .before .before .before .before .before .pre .1)
 
 run-take-requires : tie.Need-run-take-requires
-run-take-requires c κs = (enough-as (c .before .before .enum-told5 .given .1) (c .before .before .before .before .before .before .before .pre .0), c .before .before .before .before .before .before .before .pre .1)
+run-take-requires c κs =
+    (enough-as (c .before .before .enum-told5 .given .1) (c .before .before .before .before .before .before .before .pre .0), c .before .before .before .before .before .before .before .pre .1)
 
 run-refresh-requires : tie.Need-run-refresh-requires
-run-refresh-requires c κs = (enough-as (c .before .before .enum-told6 .given .1) (c .before .before .before .before .before .before .before .pre .0), c .before .before .before .before .before .before .before .pre .1)
+run-refresh-requires c κs =
+    (enough-as (c .before .before .enum-told6 .given .1) (c .before .before .before .before .before .before .before .pre .0), c .before .before .before .before .before .before .before .pre .1)
 
 returns : tie.Need-returns
 returns c = answered-as _ _ (c .before .before .before .before .before .before .before .enum-told .given .1) (c .before .before .before .before .run-setup .ensures)

@@ -12,8 +12,13 @@ use Rattle.events.proofs.reply.run_read.Tie as tie
 returns : tie.Need-returns
 unfolding eventBook eventSays
 returns c =
-    let promise = c .before .before .before .before .before .before .before .read .ensures in
-    (promise .book, wrote-same (found-by-number _ _ _ _ _ (read-under _ _ _) (λ z. c .before .before .before .before .before .before .before .before .before .before .before .depots-in .ensures .1 (read-done _ _ _ z .fits)) (promise .answer)) (c .before .before .say-finding .ensures))
+    let call = c .before .before .before .before .before .before .before in
+    let promise = call .read .ensures in
+    let looked = call .before .before .before .before in (
+      promise .book,
+      wrote-same (found-by-number _ _ _ _ _ (read-under _ _ _) (λ z. looked .depots-in .ensures .1 (read-done _ _ _ z .fits)) (promise .answer))
+          (c .before .before .say-finding .ensures),
+    )
 
 pub run-read-spec : {M : Type 1} → statement M
 run-read-spec =

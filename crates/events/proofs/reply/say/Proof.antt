@@ -23,15 +23,25 @@ slice-aggregate-run : tie.Need-slice-aggregate-run
 slice-aggregate-run c = told-part _ (c .before .before .before .before .before .before .read-line .ensures)
 
 run-requires : tie.Need-run-requires
-run-requires c κs = (told-event _ (c .before .before .before .before .before .before .before .read-line .ensures) _ (c .before .before .before .before .said .given .1) .enough, c .before .before .before .before .before .before .before .before .before .before .before .pre)
+run-requires c κs = (
+  told-event _ (c .before .before .before .before .before .before .before .read-line .ensures) _
+      (c .before .before .before .before .said .given .1) .enough,
+  c .before .before .before .before .before .before .before .before .before .before .before .pre,
+)
 
 returns : tie.Need-returns
 unfolding readingBook readingSays
-returns c = answered-reading _ (told-bad _ (c .before .before .before .before .before .before .before .read-line .ensures) (c .before .before .before .before .enum-told .given .1)) (refl, c .before .before .answer-number .ensures)
+returns c =
+    answered-reading _ (told-bad _ (c .before .before .before .before .before .before .before .read-line .ensures) (c .before .before .before .before .enum-told .given .1))
+    (refl, c .before .before .answer-number .ensures)
 
 returns-2 : tie.Need-returns-2
 unfolding readingBook readingSays
-returns-2 c = answered-reading _ (says-read _ _ _ (told-event _ (c .before .before .before .before .before .before .before .before .before .before .before .before .read-line .ensures) _ (c .before .before .before .before .before .before .before .before .before .said .given .1))) (c .before .before .before .before .run .ensures)
+returns-2 c =
+    answered-reading _
+    (says-read _ _ _
+    (told-event _ (c .before .before .before .before .before .before .before .before .before .before .before .before .read-line .ensures) _
+    (c .before .before .before .before .before .before .before .before .before .said .given .1))) (c .before .before .before .before .run .ensures)
 
 pub say-spec : {M : Type 1} → statement M
 say-spec =

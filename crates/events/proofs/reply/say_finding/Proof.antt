@@ -21,15 +21,29 @@ answer-number-requires : tie.Need-answer-number-requires
 answer-number-requires c κs = number-room _ (c .before .before .before .before .before .before .pre .0)
 
 returns : tie.Need-returns
-returns c = wrote-same (sym (ap (λ (x : Finding). findingSays x (take (c .before .before .before .before .before .before .before .before .before .args .depots) (c .before .before .before .before .before .before .before .before .before .args .t2))) (c .before .before .before .before .before .before .finding .given .1))) (c .before .before .answer-value .ensures)
+returns c =
+    wrote-same
+    (sym (ap
+    (λ (x : Finding). findingSays x
+    (take (c .before .before .before .before .before .before .before .before .before .args .depots) (c .before .before .before .before .before .before .before .before .before .args .t2)))
+    (c .before .before .before .before .before .before .finding .given .1))) (c .before .before .answer-value .ensures)
 
 returns-2 : tie.Need-returns-2
-returns-2 c = wrote-same (sym (ap (λ (x : Finding). findingSays x (take (c .before .before .before .before .before .before .before .before .args .depots) (c .before .before .before .before .before .before .before .before .args .t2))) (c .before .before .before .before .before .enum-told .given .1))) (c .before .before .answer-unwritten .ensures)
+returns-2 c =
+    wrote-same
+    (sym (ap
+    (λ (x : Finding). findingSays x
+    (take (c .before .before .before .before .before .before .before .before .args .depots) (c .before .before .before .before .before .before .before .before .args .t2)))
+    (c .before .before .before .before .before .enum-told .given .1))) (c .before .before .answer-unwritten .ensures)
 
 returns-3 : tie.Need-returns-3
 returns-3 c =
     wrote-same
-    (ap numberAnswer (c .before .before .before .before .number-of .ensures) ∙ sym (ap (λ (x : Finding). findingSays x (take (c .before .before .before .before .before .before .before .before .before .args .depots) (c .before .before .before .before .before .before .before .before .before .args .t2))) (c .before .before .before .before .before .before .finding2 .given .1)))
+    (ap numberAnswer (c .before .before .before .before .number-of .ensures)
+    ∙ sym
+    (ap (λ (x : Finding). findingSays x
+    (take (c .before .before .before .before .before .before .before .before .before .args .depots) (c .before .before .before .before .before .before .before .before .before .args .t2)))
+    (c .before .before .before .before .before .before .finding2 .given .1)))
     (c .before .before .answer-number .ensures)
 
 pub say-finding-spec : {M : Type 1} → statement M

@@ -26,7 +26,9 @@ returns-2 : tie.Need-returns-2
 returns-2 c = wrote-same (sym (ap writtenSays (c .before .before .before .before .before .answer2 .given .1))) (c .before .before .answer-stamp2 .ensures)
 
 returns-3 : tie.Need-returns-3
-returns-3 c = wrote-same (ap numberAnswer (c .before .before .before .before .number-of .ensures) ∙ sym (ap writtenSays (c .before .before .before .before .before .before .answer3 .given .1))) (c .before .before .answer-number .ensures)
+returns-3 c =
+    wrote-same (ap numberAnswer (c .before .before .before .before .number-of .ensures) ∙ sym (ap writtenSays (c .before .before .before .before .before .before .answer3 .given .1)))
+    (c .before .before .answer-number .ensures)
 
 pub say-written-spec : {M : Type 1} → statement M
 say-written-spec =

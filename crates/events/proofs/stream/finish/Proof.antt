@@ -21,7 +21,10 @@ slice-aggregate-answer-line c = let pre = c .before .before .before .before .bef
 returns-2 : tie.Need-returns-2
 returns-2 c =
     let pre = c .before .before .before .before .before .before .before .before .before .before .before .before .pre in
-    let last = last-some (now (c .before .before .before .before .before .before .before .before .before .before .before .before .args .book)) (now (c .before .before .before .before .before .before .before .before .before .before .before .before .args .line)) (c .before .before .before .before .before .before .before .before .if1 .left) (omega (arith, pre .0, pre .1)) in
+    let last =
+    last-some (now (c .before .before .before .before .before .before .before .before .before .before .before .before .args .book))
+    (now (c .before .before .before .before .before .before .before .before .before .before .before .before .args .line))
+    (c .before .before .before .before .before .before .before .before .if1 .left) (omega (arith, pre .0, pre .1)) in
     let answered = c .before .before .before .before .answer-line .ensures in
     (answered .0 ∙ sym (last .0), wrote-same (sym (last .1)) (answered .1))
 

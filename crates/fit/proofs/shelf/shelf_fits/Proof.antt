@@ -6,8 +6,8 @@ use denote.Ref.{now}
 use lib.Dec.{leb, eqb}
 use borrow.Author.Tests.{le-leb, lt-leb, eq-eqb, ne-eqb}
 use Rattle.order.proofs.BoolLaws.{and-next, and-stop, test-passed, test-failed}
-use Rattle.book.specs.Layout.{clock, stable}
-use Rattle.fit.specs.Fit.{end, othersInRange, shelfFit}
+use Rattle.book.specs.Layout.{end, clock, stable}
+use Rattle.fit.specs.Fit.{othersInRange, shelfFit}
 use Rattle.fit.proofs.RangeLaws.{range-lent}
 use borrow.Author.Needs.{needs}
 use Rattle.fit.proofs.shelf.shelf_fits.Statement.{statement}

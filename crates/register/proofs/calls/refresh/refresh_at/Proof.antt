@@ -14,7 +14,7 @@ use Rattle.shelf.specs.Show.{settled}
 use Rattle.shelf.specs.Send.{lowestSeen, fourOf}
 use Rattle.register.specs.Calls.{refreshBook}
 use Rattle.register.proofs.FitParts.{Whole, whole-open}
-use Rattle.register.proofs.FitSettled.{whole-ready}
+use Rattle.register.proofs.FitReady.{whole-ready}
 use Rattle.register.proofs.HomeLaws.{settled-four}
 use borrow.Author.Needs.{needs}
 use Rattle.register.proofs.calls.refresh.refresh_at.Statement.{statement}

@@ -10,14 +10,14 @@ use lib.Dec.{lit≤}
 use Rattle.order.specs.Loops.{pick}
 use Rattle.order.proofs.BoolLaws.{test-passed, test-failed}
 use Rattle.book.specs.declared.parts.Counts.{Counts}
-use Rattle.book.specs.Layout.{countsOf, clock}
+use Rattle.book.specs.Layout.{end, countsOf, clock}
 use Rattle.shelf.specs.Send.{roomy, beat, sent}
 use Rattle.shelf.specs.Asks.{Free}
 use Rattle.register.specs.Answers.{refusalOf, numbered, numberOf}
 use Rattle.register.specs.Calls.{tickBook}
 use Rattle.register.proofs.CallLaws.{not-done, refused-answer, refused-book, answer-done, after-done}
 use Rattle.register.proofs.FitParts.{Whole, whole-open}
-use Rattle.register.proofs.FitKept.{roomy-free}
+use Rattle.register.proofs.FitReady.{roomy-free}
 use Rattle.register.proofs.SendTable.{tick-end, tick-full, tick-good}
 use borrow.Author.Needs.{needs}
 use Rattle.register.proofs.calls.tick.tick_at.Statement.{statement}
@@ -28,8 +28,8 @@ whole : (c : tie.Start) → Whole (countsOf (now (c .args .book))) (now (c .args
 whole c = whole-open _ (c .pre .0)
 
 -- the clock is not at its end
-early : (c : tie.Else1) → let args = c .before .before .before .before .args in clock (now (args .book)) (args .d .0) (args .s .0) < 2147483647
-early c = subst (λ (x : ℕ). x < 2147483647) (c .before .clock-of .ensures) (c .if1 .left)
+early : (c : tie.Else1) → let args = c .before .before .before .before .args in clock (now (args .book)) (args .d .0) (args .s .0) < end
+early c = subst (λ (x : ℕ). x < end) (c .before .clock-of .ensures) (c .if1 .left)
 
 -- what the test of the room says
 roomy-said :
@@ -50,7 +50,7 @@ returns : tie.Need-returns
 unfolding refusalOf numbered numberOf pick
 returns c =
     let start = c .before .before .before .before in
-    let e = tick-end _ _ _ (start .pre .0) (start .pre .1) (start .pre .2) (subst (λ (x : ℕ). 2147483647 ≤ x) (c .before .clock-of .ensures) (c .if1 .taken)) in
+    let e = tick-end _ _ _ (start .pre .0) (start .pre .1) (start .pre .2) (subst (λ (x : ℕ). end ≤ x) (c .before .clock-of .ensures) (c .if1 .taken)) in
     record { answer = refused-answer _ 10 e (not-done 10 refl (lit≤ tt)) refl; book = refused-book _ 10 _ _ e (not-done 10 refl (lit≤ tt)) }
 
 counts-of-requires : tie.Need-counts-of-requires

@@ -11,14 +11,14 @@ use borrow.Author.Tests.{eq-eqb}
 use Rattle.order.specs.Loops.{pick}
 use Rattle.order.proofs.BoolLaws.{pick-true, test-passed, test-failed}
 use Rattle.book.specs.declared.parts.Counts.{Counts}
-use Rattle.book.specs.Layout.{countsOf, home, crewVector, clock}
+use Rattle.book.specs.Layout.{end, countsOf, home, crewVector, clock}
 use Rattle.shelf.specs.Send.{roomy}
 use Rattle.register.specs.Answers.{refusalOf, numbered, numberOf}
 use Rattle.register.specs.Table.{shelfOf, writeNumber}
 use Rattle.register.specs.Checks.{MayWrite}
 use Rattle.register.proofs.CallLaws.{not-done, refused-write, refused-book, after-done}
 use Rattle.register.proofs.FitParts.{Whole, whole-open}
-use Rattle.register.proofs.FitKept.{shelf-in}
+use Rattle.register.proofs.FitReady.{shelf-in}
 use Rattle.register.proofs.SendTable.{write-wait, write-end, write-full, write-good}
 use borrow.Author.Needs.{needs}
 use Rattle.register.proofs.calls.write.write_at.Statement.{statement}
@@ -84,8 +84,8 @@ told-early :
     (c : tie.Else2) →
     let args = c .before .before .before .before .before .before .before .before .before .before .before .before .before .args in
     let book = now (args .book) in
-    clock book (home book (args .c .0)) (shelfOf book (args .k .0)) < 2147483647
-told-early c = subst (λ (x : ℕ). x < 2147483647) (clock-said (c .before .before .before .before .before)) (c .if2 .left)
+    clock book (home book (args .c .0)) (shelfOf book (args .k .0)) < end
+told-early c = subst (λ (x : ℕ). x < end) (clock-said (c .before .before .before .before .before)) (c .if2 .left)
 
 roomy-said :
     (c : tie.After-is-roomy) →
@@ -173,7 +173,7 @@ returns-2 c =
     let at1 = c .before in
     let at = at1 .before .before in
     let start = at .before .before .before .before .before .before .before .before .before .before in
-    let e = write-end _ _ _ (start .pre .0) (start .pre .1) (start .pre .2) (told-no-wait at1) (subst (λ (x : ℕ). 2147483647 ≤ x) (clock-said (at .before .before)) (c .if2 .taken)) in
+    let e = write-end _ _ _ (start .pre .0) (start .pre .1) (start .pre .2) (told-no-wait at1) (subst (λ (x : ℕ). end ≤ x) (clock-said (at .before .before)) (c .if2 .taken)) in
     record { answer = refused-write _ 10 _ e (not-done 10 refl (lit≤ tt)) refl; book = refused-book _ 10 _ _ e (not-done 10 refl (lit≤ tt)) }
 
 is-roomy-requires : tie.Need-is-roomy-requires

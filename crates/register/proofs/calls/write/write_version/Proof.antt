@@ -11,7 +11,7 @@ use Rattle.book.specs.Layout.{copyKind, countsOf, home}
 use Rattle.shelf.specs.Show.{keptIn}
 use Rattle.register.specs.Answers.{cut}
 use Rattle.register.specs.Calls.{madeRecord, writtenCrew}
-use Rattle.register.proofs.FitWrite.{length-made, made-bearing}
+use Rattle.register.proofs.MadeLaws.{length-made, made-bearing}
 use Rattle.register.proofs.WriteLaws.{copy-made, record-made, crew-made, current-made, store-made, sent-made, answer-made, may-done, may-whole, may-ready, may-free}
 use borrow.Author.Needs.{needs}
 use Rattle.register.proofs.calls.write.write_version.Statement.{statement}

@@ -14,15 +14,15 @@ use Rattle.order.specs.Record.{bearingOf}
 use Rattle.order.proofs.BoolLaws.{eq-or-ne}
 use Rattle.order.proofs.VectorLaws.{length-merged, merged-entry, merged-other}
 use Rattle.book.specs.declared.parts.Counts.{Counts}
-use Rattle.book.specs.Layout.{crewAt, clockAt, stableAt, seenAt, storedAt, linkOf, crewVector, stored}
-use Rattle.fit.specs.Fit.{end, keptFit}
+use Rattle.book.specs.Layout.{end, crewAt, clockAt, stableAt, seenAt, storedAt, linkOf, crewVector, stored}
+use Rattle.fit.specs.Fit.{keptFit}
 use Rattle.shelf.specs.Show.{keptIn}
 use Rattle.shelf.proofs.FrameLaws.{Off, off-sides, part-off, length-kept-in, kept-in-low}
 use Rattle.shelf.proofs.SweepLaws.{kept-in-stored, kept-in-other}
 use Rattle.shelf.proofs.AllLaws.{record-kept-all}
 use Rattle.register.proofs.FitParts.{Whole}
-use Rattle.register.proofs.FitFrame.{counts-same, shelf-ok-same, link-ok-off, stored-ok-same}
+use Rattle.upkeep.proofs.FitFrame.{counts-same, shelf-ok-same, link-ok-off, stored-ok-same}
 use Rattle.register.proofs.FitMessage.{VersionOk, version-kept}
 
 -- a change of the crews' vectors and of the stored versions alone
 pub whole-off :

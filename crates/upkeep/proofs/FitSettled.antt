@@ -1,7 +1,7 @@
 -- Raise and show keeps a book fit.
 -- Assumes nothing.
 use Prim.Native.Nat.{ℕ, _+_, _*_, _≤_, _<_}
-use native.Mathlib.Nat.{max-le, zero-add}
+use native.Mathlib.Nat.{max-le}
 use native.Mathlib.Omega.{arith}
 use mathlib.Core.Path.{_≡_, refl, sym, _∙_, ap, subst}
 use mathlib.Core.Logic.{⊎-elim}
@@ -16,41 +16,18 @@ use Rattle.order.proofs.BoolLaws.{eq-or-ne}
 use Rattle.order.proofs.LoopLaws.{times-keeps}
 use Rattle.order.proofs.VectorLaws.{merged-own, merged-entry}
 use Rattle.book.specs.declared.parts.Counts.{Counts}
-use Rattle.book.specs.Layout.{stable, clockAt, stableAt, seenAt, storedAt, linkOf, taken, slot, stored, recordOf}
-use Rattle.fit.specs.Fit.{end, keptFit}
+use Rattle.book.specs.Layout.{end, stable, clockAt, stableAt, seenAt, storedAt, linkOf, stored, recordOf}
+use Rattle.fit.specs.Fit.{keptFit}
 use Rattle.shelf.specs.Show.{settled}
 use Rattle.shelf.proofs.FrameLaws.{Off, pick-cases, part-off}
-use Rattle.shelf.proofs.AllLaws.{AllOf, all-map, all-slots-at, all-staying, records-shown-all}
+use Rattle.shelf.proofs.AllLaws.{AllOf, all-map, all-staying, records-shown-all}
 use Rattle.shelf.proofs.ShowLaws.{takenSlots}
-use Rattle.shelf.proofs.ShowFrame.{Sound, Ready, OffLinks, length-settled, settled-off, settled-low, shown-off, raised-ready}
+use Rattle.shelf.proofs.ShowFrame.{Ready, OffLinks, length-settled, settled-off, settled-low, shown-off, raised-ready}
 use Rattle.shelf.proofs.ShownLaws.{raisedBook, settleTurn, settled-copies, settled-waiting, settled-room, settled-first, settled-store}
 use Rattle.register.proofs.FitParts.{ShelfOk, LinkOk, IsCopy, IsMessage, Whole}
-use Rattle.register.proofs.FitFrame.{counts-same, shelf-ok-same, link-ok-off, stored-ok-same}
+use Rattle.upkeep.proofs.FitFrame.{counts-same, shelf-ok-same, link-ok-off, stored-ok-same}
 use Rattle.register.proofs.FitMessage.{copy-open, version-kept}
-
--- a fit link is sound
-pub link-sound : (n : Counts) (l : List ℕ) (s from q : ℕ) → n .bearings ≤ 160 → LinkOk n l s from q → Sound l q
-unfolding takenSlots
-link-sound n l s from q small h =
-    record {
-      room = h .room;
-      first = h .first;
-      bearings = λ i k.
-          let c = copy-open n s from (slot l q i) (subst (λ (j : ℕ). IsCopy n s from (slot l q j)) (zero-add i) (all-slots-at (IsCopy n s from) l q 0 (taken l q) (h .copies) i k)) in
-          let b = c .bearing in
-          omega arith;
-    }
-
-pub whole-ready : (n : Counts) (l : List ℕ) → Whole n l → (d s : ℕ) → d < n .depots → s < n .shelves → Ready (n .depots) d s l
-whole-ready n l W d s hd hs =
-    let a = W .within .depots in
-    let b = W .within .shelves in
-    record {
-      depots = a;
-      depot = omega arith;
-      shelf = omega arith;
-      links = λ from k f. link-sound n l s from (linkOf s from d) (W .within .bearings) (W .parts .links s from d hs k hd f);
-    }
+use Rattle.register.proofs.FitReady.{whole-ready}
 
 module _ (n : Counts) (l : List ℕ) (W : Whole n l) (d s : ℕ) (offered : Vec) (hd : d < n .depots) (hs : s < n .shelves)
     (range : (x : ℕ) → x < n .depots → (x ≡ d → ⊥) → offered x ≤ end) where

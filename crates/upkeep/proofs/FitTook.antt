@@ -11,17 +11,16 @@ use lib.ListN.{getD}
 use borrow.Author.Tests.{eqb-false}
 use Rattle.order.proofs.BoolLaws.{decided, pick-true, pick-false, eq-or-ne}
 use Rattle.book.specs.declared.parts.Counts.{Counts}
-use Rattle.book.specs.Layout.{beatKind, clockAt, stableAt, seenAt, slotAt, heldAt, linkOf, held, taken, slot, kindOf}
-use Rattle.fit.specs.Fit.{end}
+use Rattle.book.specs.Layout.{end, beatKind, clockAt, stableAt, seenAt, slotAt, heldAt, linkOf, held, taken, slot, kindOf}
 use Rattle.shelf.specs.Send.{took}
 use Rattle.shelf.proofs.FrameLaws.{Off}
 use Rattle.shelf.proofs.AllLaws.{AllOf, all-append, all-one, all-first, all-rest}
 use Rattle.shelf.proofs.ShowLaws.{untakenSlots}
 use Rattle.shelf.proofs.SendFrame.{length-took, took-off}
 use Rattle.shelf.proofs.TookLaws.{took-head, took-first, took-copies, took-waiting, took-seen, took-stored}
 use Rattle.register.proofs.FitParts.{ShelfOk, LinkOk, IsCopy, IsMessage, Whole}
-use Rattle.register.proofs.FitFrame.{counts-same, link-ok-off, stored-ok-same}
+use Rattle.upkeep.proofs.FitFrame.{counts-same, link-ok-off, stored-ok-same}
 use Rattle.register.proofs.FitMessage.{CopyOk, copy-close, message-cases, stamp-range}
 
 module _ (n : Counts) (l : List ℕ) (W : Whole n l) (d s from : ℕ) (hd : d < n .depots) (hs : s < n .shelves) (hf : from < n .depots) (apart : from ≡ d → ⊥)
     (more : taken l (linkOf s from d) < held l (linkOf s from d)) where

@@ -1,46 +1,26 @@
 -- Every call that is done leaves a fit book: tick, take, refresh, read.
 -- Assumes nothing.
-use Prim.Native.Nat.{ℕ, _+_, _%_, _≤_, _<_}
-use native.Mathlib.Nat.{le-refl, le-trans, min-le-left, mod-lt}
+use Prim.Native.Nat.{ℕ, _+_, _≤_, _<_}
+use native.Mathlib.Nat.{le-refl, le-trans, min-le-left}
 use native.Mathlib.Omega.{arith}
 use mathlib.Core.Path.{_≡_, refl, sym}
-use mathlib.Core.Logic.{⊎-elim}
 use mathlib.Core.List.{List}
 use mathlib.Core.Bool.{true}
-use lib.Dec.{eqb, ltb}
-use borrow.Author.Tests.{eqb-true, ltb-true}
-use Rattle.order.proofs.BoolLaws.{or-cases}
-use Rattle.order.proofs.LoopLaws.{times-keeps, every-at}
-use Rattle.book.specs.declared.parts.Counts.{Counts}
-use Rattle.book.specs.Layout.{countsOf, home, crewVector, clock, linkOf, held, stored}
-use Rattle.fit.specs.Fit.{end, fit}
-use Rattle.shelf.specs.Send.{roomy, beat, lowest, lowestSeen}
+use Rattle.order.proofs.LoopLaws.{times-keeps}
+use Rattle.book.specs.Layout.{end, countsOf, home, crewVector, clock, stored}
+use Rattle.fit.specs.Fit.{fit}
+use Rattle.shelf.specs.Send.{beat, lowest, lowestSeen}
 use Rattle.shelf.proofs.FrameLaws.{pick-cases}
-use Rattle.shelf.proofs.SendFrame.{Free}
 use Rattle.register.specs.Table.{shelfOf, readNumber, tickNumber, takeNumber, refreshNumber}
 use Rattle.register.specs.Calls.{settledHome, readRecord, readBook, tickBook, takeBook, refreshBook}
 use Rattle.register.proofs.FitParts.{Whole, whole-open, whole-close}
 use Rattle.register.proofs.FitMessage.{beat-message, kept-range}
-use Rattle.register.proofs.FitSent.{sent-whole}
-use Rattle.register.proofs.FitTook.{took-whole}
-use Rattle.register.proofs.FitSettled.{settled-whole}
-use Rattle.register.proofs.FitStored.{crew-merged-whole}
+use Rattle.upkeep.proofs.FitSent.{sent-whole}
+use Rattle.upkeep.proofs.FitTook.{took-whole}
+use Rattle.upkeep.proofs.FitSettled.{settled-whole}
+use Rattle.upkeep.proofs.FitStored.{crew-merged-whole}
 use Rattle.register.proofs.Numbers.{tick-done, take-done, refresh-done, read-done}
-
--- room on every link out
-pub roomy-free : (n : Counts) (l : List ℕ) → Whole n l → (d s : ℕ) → d < n .depots → s < n .shelves → roomy (n .depots) d s l ≡ true → Free (n .depots) d s l
-unfolding roomy
-roomy-free n l W d s hd hs h =
-    let a = W .within .depots in
-    let b = W .within .shelves in
-    record {
-      depots = a;
-      depot = omega arith;
-      shelf = omega arith;
-      room = λ to k f.
-          ⊎-elim (λ (e : eqb to d ≡ true). absurd (f (eqb-true to d e))) (λ (e : ltb (held l (linkOf s d to)) 16 ≡ true). ltb-true _ _ e)
-          (or-cases (eqb to d) _ (every-at (n .depots) _ h to k));
-    }
+use Rattle.register.proofs.FitReady.{roomy-free, shelf-in}
 
 pub tick-fit : (l : List ℕ) (d s : ℕ) → tickNumber l d s ≡ 0 → fit (tickBook l d s) ≡ true
 unfolding tickBook
@@ -75,9 +55,6 @@ refresh-fit l d s h =
     (settled-whole (countsOf l) l (whole-open l (t .fits)) d s _ (t .depot) (t .shelf) (λ x k f. lowest-seen-range (countsOf l .depots) (countsOf l .shelves) d l x))
 
 -- ---- a crew at its home shelf
-
-pub shelf-in : (n : Counts) (l : List ℕ) → Whole n l → (k : ℕ) → k % n .shelves < n .shelves
-shelf-in n l W k = mod-lt k (W .within .shelf)
 
 pub settled-home-whole : (l : List ℕ) (c k : ℕ) → Whole (countsOf l) l → c < countsOf l .crews → Whole (countsOf l) (settledHome l c k)
 unfolding settledHome

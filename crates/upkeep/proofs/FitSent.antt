@@ -9,14 +9,13 @@ use mathlib.Core.List.{List, [], _∷_}
 use lib.ListN.{length, getD}
 use Rattle.order.proofs.BoolLaws.{eq-or-ne}
 use Rattle.book.specs.declared.parts.Counts.{Counts}
-use Rattle.book.specs.Layout.{clockAt, stableAt, seenAt, linkOf}
-use Rattle.fit.specs.Fit.{end}
+use Rattle.book.specs.Layout.{end, clockAt, stableAt, seenAt, linkOf}
 use Rattle.shelf.specs.Send.{sent}
 use Rattle.shelf.proofs.AllLaws.{AllOf, all-append, all-one}
 use Rattle.shelf.proofs.SendFrame.{Free, OffOut, length-sent, sent-off, sent-low}
 use Rattle.shelf.proofs.SentLaws.{sent-clock, sent-head, sent-first, sent-copies, sent-waiting, sent-stored}
 use Rattle.register.proofs.FitParts.{ShelfOk, LinkOk, IsCopy, IsMessage, Whole}
-use Rattle.register.proofs.FitFrame.{counts-same, link-ok-off, stored-ok-same}
+use Rattle.upkeep.proofs.FitFrame.{counts-same, link-ok-off, stored-ok-same}
 
 module _ (n : Counts) (l : List ℕ) (W : Whole n l) (d s stamp : ℕ) (m : List ℕ) (hd : d < n .depots) (hs : s < n .shelves) (fits : stamp ≤ end)
     (ten : length m ≡ 10) (ok : IsMessage n s d m) (F : Free (n .depots) d s l) where

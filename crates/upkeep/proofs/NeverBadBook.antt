@@ -14,13 +14,13 @@ use Rattle.book.specs.Layout.{bookWords}
 use Rattle.fit.specs.Fit.{fit}
 use Rattle.fit.proofs.FitLaws.{fit-open}
 use Rattle.shelf.proofs.FrameLaws.{pick-cases}
 use Rattle.register.specs.Table.{first, setupNumber, readNumber, writeNumber, tickNumber, takeNumber, refreshNumber}
 use Rattle.register.specs.Calls.{setUp}
 use Rattle.register.specs.Promises.{after}
-use Rattle.register.proofs.History.{Call, setup, read, write, tick, take, refresh, numberAt, changedAt, bookAfter, bookAfterAll}
-use Rattle.register.proofs.FitKept.{tick-fit, take-fit, refresh-fit, read-fit}
-use Rattle.register.proofs.FitWrite.{write-fit}
-use Rattle.register.proofs.FitSetup.{setup-fit}
+use Rattle.upkeep.proofs.History.{Call, setup, read, write, tick, take, refresh, numberAt, changedAt, bookAfter, bookAfterAll}
+use Rattle.upkeep.proofs.FitKept.{tick-fit, take-fit, refresh-fit, read-fit}
+use Rattle.upkeep.proofs.FitWrite.{write-fit}
+use Rattle.upkeep.proofs.FitSetup.{setup-fit}
 
 -- ---- fitness is kept
 

@@ -14,17 +14,17 @@ use Rattle.order.proofs.LoopLaws.{every-at}
 use Rattle.book.specs.declared.parts.Counts.{Counts}
 use Rattle.fit.specs.Fit.{fit}
 use Rattle.shelf.proofs.FrameLaws.{pick-cases}
 use Rattle.register.specs.declared.answer.Refusal.the-variants.{BadBook}
 use Rattle.register.specs.declared.answer.Answer.{Answer}
 use Rattle.register.specs.declared.answer.Finding.{Finding}
 use Rattle.register.specs.declared.answer.ReadAnswer.{ReadAnswer}
 use Rattle.register.specs.declared.answer.WriteAnswer.{WriteAnswer}
 use Rattle.register.specs.Answers.{numberOf, refusalOf, answerOf, tells, readRefused, writes, writeRefused, numbered}
 use Rattle.register.specs.Table.{first, setupNumber, readNumber, writeNumber, tickNumber, takeNumber, refreshNumber}
 use Rattle.register.specs.Promises.{Setup, Read, Write, Tick, Take, Refresh, after}
-use Rattle.register.proofs.History.{Call, setup, read, write, tick, take, refresh, numberAt, changedAt, bookAfter}
-use Rattle.register.proofs.NeverBadBook.{call-fit, fit-number}
-use Rattle.register.proofs.FitSetup.{setup-fit}
+use Rattle.upkeep.proofs.History.{Call, setup, read, write, tick, take, refresh, numberAt, changedAt, bookAfter}
+use Rattle.upkeep.proofs.NeverBadBook.{call-fit, fit-number}
+use Rattle.upkeep.proofs.FitSetup.{setup-fit}
 
 -- ---- one call, by its promise
 

@@ -1,0 +1,105 @@
+-- What a fit book has ready for a call: links that may be shown, and room on the links out, before a write and after its store.
+-- Assumes nothing.
+use Prim.Native.Nat.{ℕ, _+_, _%_, _≤_, _<_}
+use native.Mathlib.Nat.{zero-add, mod-lt}
+use native.Mathlib.Omega.{arith}
+use mathlib.Core.Path.{_≡_, sym, _∙_, subst}
+use mathlib.Core.Logic.{⊎-elim}
+use mathlib.Core.List.{List}
+use mathlib.Core.Bool.{true}
+use lib.Dec.{eqb, ltb}
+use lib.Seq.{getD-set-other}
+use borrow.Author.Tests.{eqb-true, ltb-true}
+use Rattle.order.proofs.BoolLaws.{or-cases}
+use Rattle.order.proofs.LoopLaws.{every-at}
+use Rattle.book.specs.declared.parts.Counts.{Counts}
+use Rattle.book.specs.Layout.{crewAt, heldAt, countsOf, home, crewVector, linkOf, held, taken, slot}
+use Rattle.shelf.specs.Asks.{Sound, Ready, Free}
+use Rattle.shelf.specs.Show.{keptIn}
+use Rattle.shelf.specs.Send.{roomy}
+use Rattle.shelf.proofs.FrameLaws.{kept-in-low}
+use Rattle.shelf.proofs.AllLaws.{all-slots-at}
+use Rattle.shelf.proofs.ShowLaws.{takenSlots}
+use Rattle.shelf.proofs.ShowFrame.{settled-off}
+use Rattle.register.specs.Table.{shelfOf}
+use Rattle.register.specs.Calls.{settledHome, newStamp, madeRecord, writtenCrew}
+use Rattle.register.proofs.Numbers.{WriteDone}
+use Rattle.register.proofs.FitParts.{IsCopy, LinkOk, Whole, whole-open}
+use Rattle.register.proofs.FitMessage.{copy-open}
+
+-- a fit link is sound
+pub link-sound : (n : Counts) (l : List ℕ) (s from q : ℕ) → n .bearings ≤ 160 → LinkOk n l s from q → Sound l q
+unfolding takenSlots
+link-sound n l s from q small h =
+    record {
+      room = h .room;
+      first = h .first;
+      bearings = λ i k.
+          let c = copy-open n s from (slot l q i) (subst (λ (j : ℕ). IsCopy n s from (slot l q j)) (zero-add i) (all-slots-at (IsCopy n s from) l q 0 (taken l q) (h .copies) i k)) in
+          let b = c .bearing in
+          omega arith;
+    }
+
+pub whole-ready : (n : Counts) (l : List ℕ) → Whole n l → (d s : ℕ) → d < n .depots → s < n .shelves → Ready (n .depots) d s l
+whole-ready n l W d s hd hs =
+    let a = W .within .depots in
+    let b = W .within .shelves in
+    record {
+      depots = a;
+      depot = omega arith;
+      shelf = omega arith;
+      links = λ from k f. link-sound n l s from (linkOf s from d) (W .within .bearings) (W .parts .links s from d hs k hd f);
+    }
+
+-- room on every link out
+pub roomy-free : (n : Counts) (l : List ℕ) → Whole n l → (d s : ℕ) → d < n .depots → s < n .shelves → roomy (n .depots) d s l ≡ true → Free (n .depots) d s l
+unfolding roomy
+roomy-free n l W d s hd hs h =
+    let a = W .within .depots in
+    let b = W .within .shelves in
+    record {
+      depots = a;
+      depot = omega arith;
+      shelf = omega arith;
+      room = λ to k f.
+          ⊎-elim (λ (e : eqb to d ≡ true). absurd (f (eqb-true to d e))) (λ (e : ltb (held l (linkOf s d to)) 16 ≡ true). ltb-true _ _ e)
+          (or-cases (eqb to d) _ (every-at (n .depots) _ h to k));
+    }
+
+-- the shelf of a bearing
+pub shelf-in : (n : Counts) (l : List ℕ) → Whole n l → (k : ℕ) → k % n .shelves < n .shelves
+shelf-in n l W k = mod-lt k (W .within .shelf)
+
+-- ---- a write
+
+module _ (l : List ℕ) (c k value : ℕ) (t : WriteDone l c k) where
+  W : Whole (countsOf l) l
+  W = whole-open l (t .fits)
+
+  hc : home l c < countsOf l .depots
+  hc = W .parts .homes c (t .crew)
+
+  hs : shelfOf l k < countsOf l .shelves
+  hs = shelf-in (countsOf l) l W k
+
+  -- a link out counts what it counted: showing only frees incoming links
+  pub out-stays :
+      (to : ℕ) → to < countsOf l .depots → (to ≡ home l c → ⊥) →
+      held (keptIn (countsOf l .depots) (home l c) (madeRecord l c k value) (writtenCrew l c k)) (linkOf (shelfOf l k) (home l c) to) ≡ held l (linkOf (shelfOf l k) (home l c) to)
+  unfolding writtenCrew settledHome
+  out-stays to z f =
+      let a = W .within .depots in
+      let b = W .within .shelves in
+      let e = W .within .crews in
+      let g = t .crew in
+      let x = hc in
+      let y = hs in
+      kept-in-low (countsOf l .depots) (home l c) (madeRecord l c k value) (writtenCrew l c k) (heldAt (linkOf (shelfOf l k) (home l c) to)) (omega arith)
+      ∙ getD-set-other (settledHome l c k) (crewAt c + home l c) (heldAt (linkOf (shelfOf l k) (home l c) to)) (newStamp l c k) 0 (omega arith)
+      ∙ settled-off (countsOf l .depots) (home l c) (shelfOf l k) (crewVector l c) l (whole-ready (countsOf l) l W (home l c) (shelfOf l k) hc hs)
+      (heldAt (linkOf (shelfOf l k) (home l c) to)) (omega arith) (λ from i j. (omega arith, omega arith)) (omega arith)
+
+  pub free : Free (countsOf l .depots) (home l c) (shelfOf l k) (keptIn (countsOf l .depots) (home l c) (madeRecord l c k value) (writtenCrew l c k))
+  free =
+      let old = roomy-free (countsOf l) l W (home l c) (shelfOf l k) hc hs (t .room) in
+      record { depots = old .depots; depot = old .depot; shelf = old .shelf; room = λ to z f. subst (λ (x : ℕ). x < 16) (sym (out-stays to z f)) (old .room to z f) }

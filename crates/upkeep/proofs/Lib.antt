@@ -1,0 +1,12 @@
+pub mod FitFrame
+pub mod FitSent
+pub mod FitTook
+pub mod FitSettled
+pub mod FitStored
+pub mod FitKept
+pub mod FitWrite
+pub mod FitSetup
+pub mod History
+pub mod NeverBadBook
+pub mod NeverBadAnswer
+pub mod Unique
