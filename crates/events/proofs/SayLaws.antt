@@ -28,7 +28,7 @@ use Rattle.line.specs.declared.reader.Event.the-variants.{Setup, Read, Write, T
 use Rattle.line.specs.declared.reader.Said.the-variants.{BadLine, Names}
 use Rattle.line.specs.declared.reader.Line.{Line}
 use Rattle.line.proofs.Theorems.{read-says, most-fits, answer-says}
-use Rattle.line.proofs.PrintLaws.{room-enough, decimal-length, value-answer-length, unwritten-answer-length, stamp-answer-length}
+use Rattle.line.proofs.PrintLaws.{room-enough, wrote-length, decimal-length, value-answer-length, unwritten-answer-length, stamp-answer-length}
 use Rattle.events.specs.Numbers.{answerNumber, findingSays, writtenSays}
 use Rattle.register.specs.Calls.{newStamp, isCurrent}
 use Rattle.events.specs.Answering.{entries, foundSays, saysOr, eventSays, eventBook, readingSays, readingBook, answerTo}
@@ -189,3 +189,10 @@ reading-length l (good e ns) = event-length l e ns
 pub answer-length : (l s : List ℕ) → length (answerTo l s) ≤ 64
 unfolding answerTo
 answer-length l s = let h = reading-length l (reading s) in let e : length (answerTo l s) ≡ length (readingSays l (reading s)) + 1 = length-append (readingSays l (reading s)) (10 ∷ []) in omega arith
+
+-- so an answer at the start of an output that has its room ends in it
+pub answer-room : (l s : List ℕ) {o o′ : List ℕ} {next : ℕ} → Wrote o 0 (answerTo l s) o′ next → 64 ≤ length o → next ≤ length o′
+answer-room l s w h =
+    let most = answer-length l s in
+    let same = wrote-length w in
+    omega (arith, w .after)

@@ -1,0 +1,228 @@
+// The worked cases (a) to (i) of the paper's "Entries on both sides", each run and compared. A script has lines of the desk, each with its answer after it.
+mod script;
+
+use book::layout::BOOK_WORDS;
+use book::layout::clock_at;
+use book::layout::crew_at;
+use book::layout::stable_at;
+use book::numbers::Crew;
+use book::numbers::Depot;
+use book::numbers::Shelf;
+use book::parts::set_clock;
+use fit::whole::is_fit;
+use libc::STDOUT_FILENO;
+use script::runs;
+ghost use mathlib.Core.Path.{_≡_};
+ghost use Prim.Native.Nat.{_≤_};
+ghost use lib.ListN.{length};
+ghost use Rattle.book.specs.Layout.{bookWords};
+ghost use Rattle.events.specs.Answering.{answerRoom};
+
+fn is_word(book: &[u32], at: usize, value: u32) -> bool {
+    if at < book.len() {
+        return book[at] == value;
+    }
+    false
+}
+
+// The clock of depot 0's shelf 0.
+fn is_clock(book: &[u32], value: u32) -> bool {
+    is_word(book, clock_at(Depot::nth(0, 2), Shelf::nth(0, 2)), value)
+}
+
+// The entry for depot 0 in the stable vector of depot 1's shelf 0.
+fn is_stable(book: &[u32], value: u32) -> bool {
+    is_word(book, stable_at(Depot::nth(1, 2), Shelf::nth(0, 2)), value)
+}
+
+// The vector of crew 1, with two depots.
+fn is_vector(book: &[u32], first: u32, second: u32) -> bool {
+    let at = crew_at(Crew::nth(1, 2));
+    is_word(book, at, first) && is_word(book, at + 1, second)
+}
+
+// The listing, but for its last line.
+fn listing(book: &mut [u32], out: &mut [u8]) -> bool
+    requires { ⌜ answerRoom ≤ length (now out) ⌝ }
+{
+    let begun = runs(
+        book,
+        out,
+        b"S 2 2 4 2 0 1\n0\nR 0 0\n0 - 0 0\nW 0 0 20\n0 1 C\nW 0 1 30\n8\nK 0 1\n0\nW 0 1 30\n0 2 C\nT 1 0 0\n0\nF 1 0\n0\nR 1 0\n0 - 0 0\n",
+    );
+    let ended = runs(book, out, b"T 1 1 0\n0\nF 1 0\n0\n");
+    begun && ended
+}
+
+// (a) after the listing: the lowest stamp seen is 1, so bearing 1 with vector (2, 0) stays hidden.
+fn case_a(book: &mut [u32], out: &mut [u8]) -> bool
+    requires { ⌜ answerRoom ≤ length (now out) ⌝ }
+{
+    let listed = listing(book, out);
+    let read = runs(book, out, b"R 1 0\n0 20 1 0\n");
+    let hidden = runs(book, out, b"T 1 1 0\n0\nF 1 1\n0\nR 1 1\n0 - 0 0\n");
+    listed && read && hidden
+}
+
+// (b) a tick of depot 0's shelf 0, taken, and it is shown.
+fn case_b(book: &mut [u32], out: &mut [u8]) -> bool
+    requires { ⌜ answerRoom ≤ length (now out) ⌝ }
+{
+    runs(
+        book,
+        out,
+        b"K 0 0\n0\nT 1 0 0\n0\nF 1 1\n0\nR 1 1\n0 30 2 0\n",
+    )
+}
+
+// (c) a read raises shelf 0's stable entry for depot 0 from 1 to 2.
+fn case_c(book: &mut [u32], out: &mut [u8]) -> bool
+    requires { ⌜ answerRoom ≤ length (now out) ⌝ }
+{
+    let before = is_stable(book, 1);
+    let read = runs(book, out, b"R 1 0\n0 20 1 0\n");
+    before && read && is_stable(book, 2)
+}
+
+// (d) a write then has stamp 1, vector (2, 1), and is current.
+fn case_d(book: &mut [u32], out: &mut [u8]) -> bool
+    requires { ⌜ answerRoom ≤ length (now out) ⌝ }
+{
+    let written = runs(book, out, b"W 1 0 44\n0 1 C\n");
+    let vector = is_vector(book, 2, 1);
+    let read = runs(book, out, b"R 1 0\n0 44 2 1\n");
+    written && vector && read
+}
+
+// (e) with the listing's last read left out: vector (0, 1), superseded; 20 stays.
+fn case_e(book: &mut [u32], out: &mut [u8]) -> bool
+    requires { ⌜ answerRoom ≤ length (now out) ⌝ }
+{
+    let listed = listing(book, out);
+    let written = runs(book, out, b"W 1 0 44\n0 1 S\n");
+    let vector = is_vector(book, 0, 1);
+    let read = runs(book, out, b"R 1 0\n0 20 1 0\n");
+    listed && written && vector && read
+}
+
+// A round: every shelf ticks, every link is emptied by these takes, every shelf is refreshed.
+fn round(book: &mut [u32], out: &mut [u8], takes: &[u8]) -> bool
+    requires { ⌜ answerRoom ≤ length (now out) ⌝ }
+{
+    let ticked = runs(book, out, b"K 0 0\n0\nK 0 1\n0\nK 1 0\n0\nK 1 1\n0\n");
+    let taken = runs(book, out, takes);
+    let shown = runs(book, out, b"F 0 0\n0\nF 0 1\n0\nF 1 0\n0\nF 1 1\n0\n");
+    ticked && taken && shown
+}
+
+// (f) two writes that know nothing of each other: after two rounds both depots read 7.
+fn case_f(book: &mut [u32], out: &mut [u8]) -> bool
+    requires { ⌜ answerRoom ≤ length (now out) ⌝ }
+{
+    let written = runs(
+        book,
+        out,
+        b"S 2 2 4 2 0 1\n0\nW 0 0 7\n0 1 C\nW 1 0 9\n0 1 C\n",
+    );
+    let first = round(
+        book,
+        out,
+        b"T 0 0 1\n0\nT 0 0 1\n0\nT 0 0 1\n7\nT 0 1 1\n0\nT 0 1 1\n7\nT 1 0 0\n0\nT 1 0 0\n0\nT 1 0 0\n7\nT 1 1 0\n0\nT 1 1 0\n7\n",
+    );
+    let second = round(
+        book,
+        out,
+        b"T 0 0 1\n0\nT 0 0 1\n7\nT 0 1 1\n0\nT 0 1 1\n7\nT 1 0 0\n0\nT 1 0 0\n7\nT 1 1 0\n0\nT 1 1 0\n7\n",
+    );
+    let read = runs(book, out, b"R 0 0\n0 7 1 0\nR 1 0\n0 7 1 0\n");
+    written && first && second && read
+}
+
+// The same script again and again.
+fn repeated(book: &mut [u32], out: &mut [u8], script: &[u8], times: usize) -> bool
+    requires { ⌜ answerRoom ≤ length (now out) ⌝ }
+{
+    let mut good = true;
+    let mut i = 0;
+    while i < times {
+        good = runs(book, out, script) && good;
+        i += 1;
+    }
+    good
+}
+
+// (g) 16 ticks pass, the 17th is LINK FULL, clock still 16. One take, and the tick passes, clock 17.
+fn case_g(book: &mut [u32], out: &mut [u8]) -> bool
+    requires { ⌜ answerRoom ≤ length (now out) ⌝ }
+{
+    let fresh = runs(book, out, b"S 2 2 4 2 0 1\n0\n");
+    let filled = repeated(book, out, b"K 0 0\n0\n", 16);
+    let refused = runs(book, out, b"K 0 0\n9\n");
+    let still = is_clock(book, 16);
+    let passed = runs(book, out, b"T 1 0 0\n0\nK 0 0\n0\n");
+    fresh && filled && refused && still && passed && is_clock(book, 17)
+}
+
+// (h) clock 2,147,483,646: a tick passes; the next is CLOCK AT END.
+fn case_h(book: &mut [u32], out: &mut [u8]) -> bool
+    requires { ⌜ (length (now book) ≡ bookWords) × (answerRoom ≤ length (now out)) ⌝ }
+{
+    let fresh = runs(book, out, b"S 2 2 4 2 0 1\n0\n");
+    set_clock(book, Depot::nth(0, 2), Shelf::nth(0, 2), 2147483646);
+    let fit = is_fit(book);
+    let ended = runs(book, out, b"K 0 0\n0\nK 0 0\n10\nW 0 0 5\n10\n");
+    fresh && fit && ended && is_clock(book, 2147483647)
+}
+
+// (i) one depot: no links, never LINK FULL. Home entry equal to the clock: no WAIT.
+fn case_i(book: &mut [u32], out: &mut [u8]) -> bool
+    requires { ⌜ answerRoom ≤ length (now out) ⌝ }
+{
+    let fresh = runs(book, out, b"S 1 1 1 1 0\n0\n");
+    let ticked = repeated(book, out, b"K 0 0\n0\n", 40);
+    let written = runs(
+        book,
+        out,
+        b"W 0 0 7\n0 41 C\nW 0 0 8\n0 42 C\nR 0 0\n0 8 42\n",
+    );
+    fresh && ticked && written
+}
+
+// Says how a case went.
+fn tell(letter: u8, good: bool) {
+    let name = [b'(', letter, b')', b' '];
+    io::write_all(STDOUT_FILENO, &name);
+    if good {
+        io::write_all(STDOUT_FILENO, b"as written\n");
+    } else {
+        io::write_all(STDOUT_FILENO, b"DIFFERS\n");
+    }
+}
+
+// Those that go on from the listing.
+fn from_listing(book: &mut [u32], out: &mut [u8])
+    requires { ⌜ answerRoom ≤ length (now out) ⌝ }
+{
+    tell(b'a', case_a(book, out));
+    tell(b'b', case_b(book, out));
+    tell(b'c', case_c(book, out));
+    tell(b'd', case_d(book, out));
+    tell(b'e', case_e(book, out));
+}
+
+// Those that start afresh.
+fn from_setup(book: &mut [u32], out: &mut [u8])
+    requires { ⌜ (length (now book) ≡ bookWords) × (answerRoom ≤ length (now out)) ⌝ }
+{
+    tell(b'f', case_f(book, out));
+    tell(b'g', case_g(book, out));
+    tell(b'h', case_h(book, out));
+    tell(b'i', case_i(book, out));
+}
+
+fn main() {
+    let mut book = [0u32; BOOK_WORDS];
+    let mut out = [0u8; 64];
+    from_listing(&mut book, &mut out);
+    from_setup(&mut book, &mut out);
+}
