@@ -1,0 +1,4 @@
+pub mod TableRule
+pub mod StartTable
+pub mod MonthLaws
+pub mod StartLaws
