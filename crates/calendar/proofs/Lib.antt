@@ -4,3 +4,8 @@ pub mod MonthLaws
 pub mod StartLaws
 pub mod DateLaws
 pub mod AnswerLaws
+pub mod Bijection
+pub mod NextLaws
+pub mod Theorems
+mod Examples
+pub mod Unique
