@@ -1,19 +1,17 @@
 -- The cases of the calendar's answers: which refusal comes first, and what is answered when none comes.
 -- Assumes nothing.
-use Prim.Native.Nat.{ℕ, _+_, _-_, _*_, _≤_, _<_, min}
+use Prim.Native.Nat.{ℕ, _≤_, _<_, min}
 use native.Mathlib.Omega.{arith}
-use mathlib.Core.Path.{_≡_, refl, sym, _∙_, ap, ap₂}
-use mathlib.Core.Bool.{Bool, true, false, _&&_, not, and-false}
-use lib.Dec.{leb, eqb}
+use mathlib.Core.Path.{_≡_, ap}
+use mathlib.Core.Bool.{true, false, and-false}
+use lib.Dec.{leb}
 use borrow.Author.Tests.{le-leb, lt-leb, eq-eqb, ne-eqb}
 use Rattle.order.specs.Loops.{pick}
 use Rattle.order.proofs.BoolLaws.{and-stop, and-intro, pick-true, pick-false}
-use Rattle.calendar.specs.Months.{daysIn, daysOf, yearOf, monthOf, start}
-use Rattle.calendar.specs.Dates.{isDate, monthIndex, dateIn, dayNumber, monthOn, dateOf, numberAnswer, dateAnswer}
+use Rattle.calendar.specs.Months.{start}
+use Rattle.calendar.specs.Dates.{isDate, dayNumber, dateOf, numberAnswer, dateAnswer}
 use Rattle.calendar.specs.Next.{isStep, nextMonth, nextDate, numbered, nextAnswer}
-use Rattle.calendar.specs.declared.answers.Date.{Date}
 use Rattle.calendar.specs.declared.answers.DateRefusal.the-variants.{BadDate, BadStep, BadCount, TooLate}
-use Rattle.calendar.specs.declared.answers.DateAnswer.{DateAnswer}
 use Rattle.calendar.specs.declared.answers.DateAnswer.the-variants.{Refused, On}
 
 -- a month that is in the table, or the one after it, is not cut off

@@ -1,20 +1,18 @@
 -- The laws of dates: what a date that exists tells, how a date and its month counted from January 2000 belong together, and that a day lies
 -- in exactly one month.
 -- Assumes nothing.
-use Prim.Native.Nat.{ℕ, zero, suc, _+_, _-_, _≤_, _<_, min}
+use Prim.Native.Nat.{ℕ, zero, suc, _+_, _-_, _≤_, _<_}
 use native.Mathlib.Nat.{le-refl}
-use native.Mathlib.Numerals.{add-one}
 use native.Mathlib.Omega.{arith}
-use mathlib.Core.Path.{_≡_, refl, sym, _∙_, ap, ap₂}
-use mathlib.Core.Logic.{_⊎_, inl, inr, ⊎-elim}
-use mathlib.Core.Bool.{Bool, true, false, _&&_}
+use mathlib.Core.Path.{_≡_, sym, _∙_, ap, ap₂}
+use mathlib.Core.Logic.{⊎-elim}
+use mathlib.Core.Bool.{true, false, _&&_}
 use lib.Dec.{leb}
 use borrow.Author.Tests.{le-leb, lt-leb, leb-true, leb-false}
-use Rattle.order.specs.Loops.{pick}
-use Rattle.order.proofs.BoolLaws.{and-left, and-right, and-intro, and-next, and-stop, decided, eq-or-ne, pick-true, pick-false}
-use Rattle.calendar.specs.Months.{isMonth, daysIn, daysOf, yearOf, monthOf, start}
+use Rattle.order.proofs.BoolLaws.{and-left, and-right, and-stop, decided, eq-or-ne, pick-true, pick-false}
+use Rattle.calendar.specs.Months.{daysIn, daysOf, yearOf, monthOf, start}
 use Rattle.calendar.specs.Dates.{isDate, monthIndex, dayNumber, monthBy, monthOn}
-use Rattle.calendar.proofs.MonthLaws.{days-month, month-least, month-most, days-of-bounds}
+use Rattle.calendar.proofs.MonthLaws.{days-month, month-least, month-most}
 use Rattle.calendar.proofs.StartLaws.{start-none, start-suc, start-after, year-2400-start}
 
 -- what is known of a date that exists

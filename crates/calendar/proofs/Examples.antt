@@ -5,7 +5,7 @@ use mathlib.Core.Path.{_≡_, refl, sym, _∙_, ap}
 use mathlib.Core.Bool.{true, false}
 use Rattle.order.specs.Loops.{pick}
 use Rattle.calendar.specs.Months.{monthLengths, leap, isMonth, daysIn, daysOf, start}
-use Rattle.calendar.specs.Dates.{isDate, dayNumber, dateOf, numberAnswer}
+use Rattle.calendar.specs.Dates.{isDate, dayNumber, dateOf}
 use Rattle.calendar.specs.Next.{isStep, nextDate, numbered, nextAnswer}
 use Rattle.calendar.specs.declared.answers.Date.{Date}
 use Rattle.calendar.specs.declared.answers.DateRefusal.the-variants.{BadDate, BadStep, BadCount, TooLate}

@@ -1,15 +1,15 @@
 -- The laws of a month's days: the cases of the leap rule and of the list, and that every month has 28 to 31 days.
 -- Assumes nothing.
-use Prim.Native.Nat.{ℕ, _+_, _-_, _%_, _≤_, _<_}
+use Prim.Native.Nat.{ℕ, _-_, _%_, _≤_, _<_}
 use native.Mathlib.Omega.{arith}
-use mathlib.Core.Path.{_≡_, refl, sym}
-use mathlib.Core.Logic.{_⊎_, ⊎-elim}
-use mathlib.Core.Bool.{Bool, true, false, _&&_, and-false}
+use mathlib.Core.Path.{_≡_, refl}
+use mathlib.Core.Logic.{⊎-elim}
+use mathlib.Core.Bool.{true, false, _&&_, and-false}
 use lib.Dec.{leb, eqb}
 use lib.ListN.{getD}
 use borrow.Author.Tests.{le-leb, lt-leb, eq-eqb, ne-eqb, leb-true, eqb-true}
 use Rattle.order.specs.Loops.{pick, every}
-use Rattle.order.proofs.BoolLaws.{decided, and-left, and-right, and-intro, and-stop, pick-true, pick-false}
+use Rattle.order.proofs.BoolLaws.{decided, and-left, and-right, and-intro, and-stop, pick-false}
 use Rattle.order.proofs.LoopLaws.{every-at}
 use Rattle.calendar.specs.Months.{monthLengths, leap, isMonth, daysIn, daysOf, yearOf, monthOf}
 

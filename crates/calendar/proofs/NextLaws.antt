@@ -1,16 +1,15 @@
 -- The n-th next dates: each lies in its own month, and the months rise with n, so each is later than the one before.
 -- Assumes nothing.
-use Prim.Native.Nat.{ℕ, suc, _+_, _-_, _*_, _≤_, _<_, min}
+use Prim.Native.Nat.{ℕ, suc, _+_, _-_, _≤_, _<_}
 use native.Mathlib.Nat.{mul-suc, mul-zero}
 use native.Mathlib.Omega.{arith}
 use mathlib.Core.Path.{_≡_, sym, _∙_, ap, subst}
 use mathlib.Core.Logic.{⊎-elim}
-use mathlib.Core.Bool.{Bool, true, false, _&&_, not}
-use lib.Dec.{leb, eqb}
+use mathlib.Core.Bool.{true, false}
 use borrow.Author.Tests.{leb-true}
-use Rattle.order.proofs.BoolLaws.{and-left, and-right, decided, eq-or-ne, le-or-lt}
-use Rattle.calendar.specs.Months.{daysOf, yearOf, monthOf, start}
-use Rattle.calendar.specs.Dates.{isDate, monthIndex, dateIn, dayNumber}
+use Rattle.order.proofs.BoolLaws.{and-left, decided, eq-or-ne, le-or-lt}
+use Rattle.calendar.specs.Months.{daysOf, start}
+use Rattle.calendar.specs.Dates.{isDate, monthIndex, dayNumber}
 use Rattle.calendar.specs.Next.{isStep, nextMonth, dayWithin, nextDate, numbered, nextAnswer}
 use Rattle.calendar.specs.declared.answers.Date.{Date}
 use Rattle.calendar.specs.declared.answers.DateRefusal.the-variants.{BadDate, BadStep, BadCount, TooLate}
@@ -18,7 +17,7 @@ use Rattle.calendar.specs.declared.answers.DateAnswer.{DateAnswer}
 use Rattle.calendar.specs.declared.answers.DateAnswer.the-variants.{Refused, On}
 use Rattle.calendar.proofs.MonthLaws.{days-of-bounds}
 use Rattle.calendar.proofs.StartLaws.{start-after}
-use Rattle.calendar.proofs.DateLaws.{Real, date-real, date-in-real, index-year, index-month, index-days, number-in}
+use Rattle.calendar.proofs.DateLaws.{date-real, date-in-real, index-days, number-in}
 use Rattle.calendar.proofs.AnswerLaws.{next-bad-date, next-bad-step, next-bad-count, next-too-late, next-given}
 
 -- what holds when there is an n-th next date

@@ -2,12 +2,9 @@
 -- whole table at once.
 -- Assumes nothing.
 use Prim.Native.Nat.{ℕ, zero, suc, _+_, _≤_, _<_}
-use native.Mathlib.Nat.{le-of-lt}
-use native.Mathlib.Numerals.{add-one}
 use native.Mathlib.Omega.{arith}
 use mathlib.Core.Path.{_≡_, refl, sym, _∙_, ap}
-use mathlib.Core.Bool.{Bool, true, false, _&&_, _||_, not}
-use mathlib.Core.List.{List, _∷_}
+use mathlib.Core.List.{_∷_}
 use mathlib.Core.Logic.{⊎-elim}
 use lib.Dec.{T}
 use lib.ListN.{length, getD}
@@ -16,7 +13,6 @@ use Rattle.order.proofs.BoolLaws.{eq-or-ne}
 use Rattle.calendar.specs.Months.{monthLengths, leap, isMonth, daysIn, daysOf, start}
 use Rattle.calendar.proofs.TableRule.{rises, rule-at}
 use Rattle.calendar.proofs.StartTable.{first, later}
-use Rattle.calendar.proofs.MonthLaws.{days-of-bounds}
 
 pub start-none : start 0 ≡ 0
 unfolding start

@@ -4,23 +4,21 @@ use Prim.Native.Nat.{ℕ, suc, _+_, _≤_, _<_}
 use native.Mathlib.Omega.{arith}
 use mathlib.Core.Path.{_≡_, refl, sym, _∙_, ap, subst}
 use mathlib.Core.List.{_∷_}
-use mathlib.Core.Bool.{Bool, true, false}
+use mathlib.Core.Bool.{true, false}
 use mathlib.Core.Logic.{⊎-elim}
 use lib.ListN.{length, getD}
-use Rattle.order.proofs.BoolLaws.{decided, le-or-lt}
-use Rattle.calendar.specs.Months.{daysOf, start}
+use Rattle.order.proofs.BoolLaws.{decided}
+use Rattle.calendar.specs.Months.{daysOf}
 use Rattle.calendar.specs.Dates.{isDate, dayNumber, dateOf, numberAnswer, dateAnswer}
-use Rattle.calendar.specs.Next.{nextMonth, dayWithin, nextDate, nextAnswer}
+use Rattle.calendar.specs.Next.{nextDate, nextAnswer}
 use Rattle.calendar.specs.declared.answers.Date.{Date}
-use Rattle.calendar.specs.declared.answers.DateRefusal.the-variants.{BadDate, BadStep, BadCount, TooLate}
-use Rattle.calendar.specs.declared.answers.DateAnswer.{DateAnswer}
-use Rattle.calendar.specs.declared.answers.DateAnswer.the-variants.{Refused, On}
+use Rattle.calendar.specs.declared.answers.DateAnswer.the-variants.{On}
 use Rattle.calendar.proofs.StartTable.{first, later}
 use Rattle.calendar.proofs.StartLaws.{start-suc, table-length, table-start, last-start}
 use Rattle.calendar.proofs.DateLaws.{date-real}
-use Rattle.calendar.proofs.AnswerLaws.{number-refused, number-given, date-refused, date-given}
+use Rattle.calendar.proofs.AnswerLaws.{number-refused, number-given, date-given}
 use Rattle.calendar.proofs.Bijection.{number-small, date-of-number, date-of-real, number-of-date}
-use Rattle.calendar.proofs.NextLaws.{Accepted, accepted, given, nextNumber, step-least, number-rises, number-anchor, answered, next-exists, next-number, accepted-before}
+use Rattle.calendar.proofs.NextLaws.{accepted, given, nextNumber, step-least, number-rises, number-anchor, answered, next-exists, next-number, accepted-before}
 
 -- an answer that is a date is the date of its number: it exists, and the number is its own
 pub record Good (e : Date) (k : ℕ) : Type 0 where

@@ -1,7 +1,7 @@
 -- Each promise settles its answer: two answers that satisfy a contract, for the same arguments, are the same. The contract is the
 -- function's own, as a caller reads it (`Learnt`), and no copy.
 -- Assumes nothing.
-use mathlib.Core.Path.{_≡_, _∙_, sym}
+use mathlib.Core.Path.{_∙_, sym}
 use Rattle.order.proofs.Unique.{Settled}
 use Rattle.calendar.proofs.dates.is_date.Kinds as is-date-kinds
 use Rattle.calendar.proofs.dates.is_date.Reads as is-date

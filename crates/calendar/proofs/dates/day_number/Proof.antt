@@ -9,7 +9,7 @@ use Rattle.order.proofs.BoolLaws.{test-passed, test-failed}
 use Rattle.calendar.specs.Months.{start}
 use Rattle.calendar.specs.Dates.{isDate, monthIndex, dayNumber}
 use Rattle.calendar.specs.declared.answers.DateAnswer.the-variants.{On}
-use Rattle.calendar.proofs.DateLaws.{Real, date-real, index-days, index-small, end-small}
+use Rattle.calendar.proofs.DateLaws.{date-real, index-days, index-small, end-small}
 use Rattle.calendar.proofs.AnswerLaws.{start-uncut, number-refused, number-given}
 use Rattle.calendar.proofs.dates.day_number.Statement.{statement}
 use Rattle.calendar.proofs.dates.day_number.Tie as tie

@@ -1,6 +1,6 @@
 -- `calendar::dates::is_date` meets its contract: one test after the other.
 -- Assumes nothing.
-use mathlib.Core.Path.{_≡_, sym, _∙_, ap}
+use mathlib.Core.Path.{sym, _∙_, ap}
 use lib.Dec.{leb}
 use borrow.Author.Needs.{needs}
 use Rattle.calendar.proofs.DateLaws.{date-early, date-late, date-day-0, date-within}

@@ -1,13 +1,12 @@
 -- `calendar::dates::month_on` meets its contract. The loop's invariant: `low` has started by the day, and `high` has not.
 -- Assumes nothing.
-use Prim.Native.Nat.{ℕ, suc, _+_, _-_, _/_, _≤_, _<_}
-use native.Mathlib.Numerals.{add-one}
+use Prim.Native.Nat.{suc, _+_, _-_, _/_, _≤_, _<_}
 use native.Mathlib.Omega.{arith}
 use mathlib.Core.Path.{_≡_, sym, _∙_, ap}
 use borrow.Author.Needs.{needs}
 use Rattle.calendar.specs.Months.{start}
 use Rattle.calendar.proofs.StartLaws.{start-none, year-2400-start, start-suc}
-use Rattle.calendar.proofs.DateLaws.{Inside, month-on-is}
+use Rattle.calendar.proofs.DateLaws.{month-on-is}
 use Rattle.calendar.proofs.AnswerLaws.{start-uncut}
 use Rattle.calendar.proofs.dates.month_on.Statement.{statement}
 use Rattle.calendar.proofs.dates.month_on.Tie as tie

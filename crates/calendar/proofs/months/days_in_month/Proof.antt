@@ -1,13 +1,11 @@
 -- `calendar::months::days_in_month` meets its contract: the cases of a month's days.
 -- Assumes nothing.
-use mathlib.Core.Path.{_≡_, sym, _∙_}
-use mathlib.Core.Bool.{_&&_, false}
+use mathlib.Core.Path.{sym, _∙_}
 use mathlib.Core.Logic.{⊎-elim}
-use lib.Dec.{eqb}
 use borrow.Author.Needs.{needs}
 use borrow.Author.Tests.{eq-eqb, ne-eqb}
 use Rattle.order.proofs.BoolLaws.{and-stop}
-use Rattle.calendar.specs.Months.{monthLengths, leap}
+use Rattle.calendar.specs.Months.{monthLengths}
 use Rattle.calendar.proofs.MonthLaws.{month-low, month-high, days-none, days-leap, days-listed}
 use Rattle.calendar.proofs.months.days_in_month.Statement.{statement}
 use Rattle.calendar.proofs.months.days_in_month.Tie as tie

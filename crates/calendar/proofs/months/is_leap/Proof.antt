@@ -1,7 +1,6 @@
 -- `calendar::months::is_leap` meets its contract: the three cases of the leap rule.
 -- Assumes nothing.
-use mathlib.Core.Path.{_≡_, sym}
-use borrow.Author.Needs.{needs}
+use mathlib.Core.Path.{sym}
 use Rattle.calendar.proofs.MonthLaws.{leap-fourth, leap-hundred, leap-four-hundred}
 use Rattle.calendar.proofs.months.is_leap.Statement.{statement}
 use Rattle.calendar.proofs.months.is_leap.Tie as tie

@@ -1,8 +1,7 @@
 -- `calendar::starts::month_start` meets its contract: the table has the month starts, and the year 2400 would start after the last of them.
 -- Assumes nothing.
-use Prim.Native.Nat.{ℕ, min}
 use native.Mathlib.Omega.{arith}
-use mathlib.Core.Path.{_≡_, sym, _∙_, ap}
+use mathlib.Core.Path.{sym, _∙_, ap}
 use borrow.Author.Needs.{needs}
 use Rattle.calendar.specs.Months.{start}
 use Rattle.calendar.proofs.StartTable.{later}
