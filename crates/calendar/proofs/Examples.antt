@@ -10,7 +10,6 @@ use Rattle.calendar.specs.Next.{isStep, nextDate, numbered, nextAnswer}
 use Rattle.calendar.specs.declared.answers.Date.{Date}
 use Rattle.calendar.specs.declared.answers.DateRefusal.the-variants.{BadDate, BadStep, BadCount, TooLate}
 use Rattle.calendar.specs.declared.answers.DateAnswer.the-variants.{Refused, On}
-use Rattle.calendar.proofs.StartLaws.{year-2400-start}
 use Rattle.calendar.proofs.Bijection.{date-of-number}
 
 abbrev date : ℕ → ℕ → ℕ → Date
@@ -30,12 +29,12 @@ leap-february : nextAnswer 2024 1 31 1 1 ≡ On (date 2024 2 29) 8825
 unfolding pick monthLengths leap isMonth daysIn daysOf start isDate dayNumber isStep nextDate numbered nextAnswer
 leap-february = refl
 
--- 29 February 2024, yearly: 28 February 2025, and after four years the 29th again
+-- 29 February 2024, yearly: 28 February 2025
 yearly : nextAnswer 2024 2 29 12 1 ≡ On (date 2025 2 28) 9190
 unfolding pick monthLengths leap isMonth daysIn daysOf start isDate dayNumber isStep nextDate numbered nextAnswer
 yearly = refl
 
--- 1 March 2000 is day 60, and the year 2400 would start at 146,097
+-- 1 March 2000 is day 60. That the year 2400 would start at 146,097 is `year-2400-start`, in StartLaws.
 march-2000 : dayNumber 2000 3 1 ≡ 60
 unfolding pick monthLengths leap isMonth daysIn daysOf start dayNumber
 march-2000 = refl
@@ -43,9 +42,6 @@ march-2000 = refl
 day-60 : dateOf 60 ≡ date 2000 3 1
 unfolding isDate pick monthLengths leap isMonth daysIn
 day-60 = ap dateOf (sym march-2000) ∙ date-of-number 2000 3 1 refl
-
-year-2400 : start 4800 ≡ 146097
-year-2400 = year-2400-start
 
 -- 2000 is a leap year and 2100 is not
 leap-2000 : isDate 2000 2 29 ≡ true

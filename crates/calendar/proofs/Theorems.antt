@@ -9,8 +9,9 @@ use mathlib.Core.Logic.{⊎-elim}
 use lib.ListN.{length, getD}
 use Rattle.order.proofs.BoolLaws.{decided}
 use Rattle.calendar.specs.Months.{daysOf}
-use Rattle.calendar.specs.Dates.{isDate, dayNumber, dateOf, numberAnswer, dateAnswer}
+use Rattle.calendar.specs.Dates.{isDate, dayNumber, numberOf, dateOf, numberAnswer, dateAnswer}
 use Rattle.calendar.specs.Next.{nextDate, nextAnswer}
+use Rattle.calendar.specs.Promises.{Good}
 use Rattle.calendar.specs.declared.answers.Date.{Date}
 use Rattle.calendar.specs.declared.answers.DateAnswer.the-variants.{On}
 use Rattle.calendar.proofs.StartTable.{first, later}
@@ -18,12 +19,7 @@ use Rattle.calendar.proofs.StartLaws.{start-suc, table-length, table-st
 use Rattle.calendar.proofs.DateLaws.{date-real}
 use Rattle.calendar.proofs.AnswerLaws.{number-refused, number-given, date-given}
 use Rattle.calendar.proofs.Bijection.{number-small, date-of-number, date-of-real, number-of-date}
-use Rattle.calendar.proofs.NextLaws.{accepted, given, nextNumber, step-least, number-rises, number-anchor, answered, next-exists, next-number, accepted-before}
-
--- an answer that is a date is the date of its number: it exists, and the number is its own
-pub record Good (e : Date) (k : ℕ) : Type 0 where
-  pub exists : isDate (e .year) (e .month) (e .day) ≡ true
-  pub number : k ≡ dayNumber (e .year) (e .month) (e .day)
+use Rattle.calendar.proofs.NextLaws.{accepted, given, step-least, number-rises, number-anchor, answered, next-exists, accepted-before}
 
 -- there and back: a date's number, asked for its date, gives that date
 pub there-and-back : (y m d : ℕ) {e : Date} {k : ℕ} → numberAnswer y m d ≡ On e k → dateAnswer k ≡ On (record { year = y; month = m; day = d }) k
@@ -52,7 +48,7 @@ module _ (y m d s : ℕ) where
       let said = answered y m d s n p in
       subst (λ (x : Date). Good x k) (said .0)
       (subst (λ (j : ℕ). Good (nextDate y m d s n) j) (said .1)
-      (record { exists = next-exists y m d s n (accepted y m d s n p); number = next-number y m d s n }))
+      (record { exists = next-exists y m d s n (accepted y m d s n p); number = refl }))
 
   -- the first is later than the anchor
   pub next-first : {b : Date} {k : ℕ} → nextAnswer y m d s 1 ≡ On b k → dayNumber y m d < k
@@ -70,7 +66,7 @@ module _ (y m d s : ℕ) where
 
   -- and there is one before each but the first
   pub next-before : (n : ℕ) {b : Date} {k : ℕ} → nextAnswer y m d s (suc (suc n)) ≡ On b k
-      → nextAnswer y m d s (suc n) ≡ On (nextDate y m d s (suc n)) (nextNumber y m d s (suc n))
+      → nextAnswer y m d s (suc n) ≡ On (nextDate y m d s (suc n)) (numberOf (nextDate y m d s (suc n)))
   next-before n q = given y m d s (suc n) (accepted-before y m d s n (accepted y m d s (suc (suc n)) q))
 
 -- the table: 4,800 entries, 0 first, each the one before plus that month's days, and they are the month starts; the year 2400 would start

@@ -40,6 +40,9 @@ dateIn m d = record { year = yearOf m; month = monthOf m; day = d }
 unfoldable pub dayNumber : ℕ → ℕ → ℕ → ℕ
 dayNumber year month day = start (monthIndex year month) + (day - 1)
 
+abbrev pub numberOf : Date → ℕ
+numberOf d = dayNumber (d .year) (d .month) (d .day)
+
 -- the last of the months 0 to n that starts by day k
 unfoldable pub monthBy : ℕ → ℕ → ℕ
 monthBy zero k = 0
