@@ -10,7 +10,7 @@ use lib.Dec.{T}
 use lib.ListN.{length, getD}
 use Rattle.order.specs.Loops.{pick}
 use Rattle.order.proofs.BoolLaws.{eq-or-ne}
-use Rattle.calendar.specs.Months.{monthLengths, leap, isMonth, daysIn, daysOf, start}
+use Rattle.calendar.specs.Months.{monthLengths, leap, isMonth, daysIn, daysOf, start, Starts}
 use Rattle.calendar.proofs.TableRule.{rises, rule-at}
 use Rattle.calendar.proofs.StartTable.{first, later}
 
@@ -51,6 +51,9 @@ table-start (suc m) h =
     rule-at daysOf first later table-rises m (omega (arith, later-length))
     ∙ ap (λ (s : ℕ). s + daysOf m) (table-start m (omega arith))
     ∙ sym (start-suc m)
+
+pub table-starts : Starts (first ∷ later)
+table-starts = record { size = table-length; entry = table-start }
 
 -- the last entry, and the day on which the year 2400 would start
 pub last-start : start 4799 ≡ 146066

@@ -1,11 +1,12 @@
 -- The months of the years 2000 to 2399: how many days each has, and the day on which it starts. Day 0 is 1 January 2000, and month 0 is
 -- January 2000.
 -- Assumes nothing.
-use Prim.Native.Nat.{ℕ, zero, suc, _+_, _-_, _/_, _%_}
+use Prim.Native.Nat.{ℕ, zero, suc, _+_, _-_, _/_, _%_, _<_}
+use mathlib.Core.Path.{_≡_}
 use mathlib.Core.List.{List, [], _∷_}
 use mathlib.Core.Bool.{Bool, _&&_, _||_, not}
 use lib.Dec.{leb, eqb}
-use lib.ListN.{getD}
+use lib.ListN.{length, getD}
 use Rattle.order.specs.Loops.{pick}
 
 abbrev pub firstYear : ℕ
@@ -49,3 +50,8 @@ daysOf m = daysIn (yearOf m) (monthOf m)
 unfoldable pub start : ℕ → ℕ
 start zero = 0
 start (suc m) = start m + daysOf m
+
+-- the list l has the starts of all the months
+pub record Starts (l : List ℕ) : Type 0 where
+  pub size : length l ≡ months
+  pub entry : (m : ℕ) → m < months → getD l m 0 ≡ start m

@@ -4,11 +4,12 @@ use crate::answers::DateAnswer;
 use crate::answers::DateRefusal;
 use crate::months::days_in_month;
 use crate::starts::MONTHS;
+use crate::starts::STARTS;
 use crate::starts::month_start;
 ghost use mathlib.Core.Path.{_≡_};
 ghost use mathlib.Core.Bool.{true};
 ghost use Prim.Native.Nat.{_≤_, _<_, min};
-ghost use Rattle.calendar.specs.Months.{months};
+ghost use Rattle.calendar.specs.Months.{months, Starts};
 ghost use Rattle.calendar.specs.Dates.{lastDay, isDate, monthIndex, dateIn, monthOn, numberAnswer, dateAnswer};
 ghost use Rattle.calendar.specs.Next.{dayWithin, numbered, nextAnswer};
 
@@ -56,16 +57,16 @@ fn date_in(month: u32, day: u32) -> Date
     }
 }
 
-// The month that a day lies in, counted from January 2000 as 0: the months before `high` are halved until one is left.
-fn month_on(day: u32) -> u32
-    requires { ⌜ day ≤ lastDay ⌝ }
+// The month that a day lies in, counted from January 2000 as 0: of the months, given by their starts, half are left out again and again.
+fn month_on(starts: &[u32], day: u32) -> usize
+    requires { ⌜ Starts (now starts) × (day ≤ lastDay) ⌝ }
     ensures { λ r. ⌜ r ≡ monthOn day ⌝ }
 {
-    let mut low: u32 = 0;
-    let mut high = MONTHS;
+    let mut low = 0;
+    let mut high = MONTHS as usize;
     while low + 1 < high {
         let middle = (low + high) / 2;
-        if month_start(middle) <= day {
+        if starts[middle] <= day {
             low = middle;
         } else {
             high = middle;
@@ -92,9 +93,10 @@ pub fn date_of(day: u32) -> DateAnswer
     if LAST_DAY < day {
         return DateAnswer::Refused(DateRefusal::TooLate);
     }
-    let month = month_on(day);
-    let start = month_start(month);
-    DateAnswer::On(date_in(month, day - start + 1), day)
+    let starts = STARTS;
+    let month = month_on(&starts, day);
+    let start = starts[month];
+    DateAnswer::On(date_in(month as u32, day - start + 1), day)
 }
 
 // The smaller of two numbers.

@@ -19,7 +19,7 @@ pub fn month_start(month: u32) -> u32
 }
 
 // One entry a month; a line is a year. Each is the one before plus that month's days.
-const STARTS: [u32; 4800] = [
+pub const STARTS: [u32; 4800] = [
     0,
     31,
     60,
