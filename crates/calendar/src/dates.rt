@@ -4,8 +4,8 @@ use crate::answers::DateAnswer;
 use crate::answers::DateRefusal;
 use crate::months::days_in_month;
 use crate::starts::MONTHS;
-use crate::starts::STARTS;
 use crate::starts::month_start;
+use crate::starts::month_starts;
 ghost use mathlib.Core.Path.{_≡_};
 ghost use mathlib.Core.Bool.{true};
 ghost use Prim.Native.Nat.{_≤_, _<_, min};
@@ -93,7 +93,7 @@ pub fn date_of(day: u32) -> DateAnswer
     if LAST_DAY < day {
         return DateAnswer::Refused(DateRefusal::TooLate);
     }
-    let starts = STARTS;
+    let starts = month_starts();
     let month = month_on(&starts, day);
     let start = starts[month];
     DateAnswer::On(date_in(month as u32, day - start + 1), day)

@@ -1,12 +1,19 @@
 // The day on which each month starts, from January 2000 (month 0) to December 2399 (month 4,799).
 ghost use mathlib.Core.Path.{_≡_};
 ghost use Prim.Native.Nat.{min};
-ghost use Rattle.calendar.specs.Months.{months, start};
+ghost use Rattle.calendar.specs.Months.{months, start, Starts};
 
 // How many months there are, and the day on which the year 2400 would start.
 pub const MONTHS: u32 = 4800;
 
 const DAYS: u32 = 146_097;
+
+// The starts of all the months. Whoever looks more than once keeps them.
+pub fn month_starts() -> [u32; 4800]
+    ensures { λ r. ⌜ Starts r ⌝ }
+{
+    STARTS
+}
 
 // The day on which a month starts. What lies after December 2399 starts with the year 2400.
 pub fn month_start(month: u32) -> u32
@@ -15,11 +22,12 @@ pub fn month_start(month: u32) -> u32
     if MONTHS <= month {
         return DAYS;
     }
-    STARTS[month as usize]
+    let starts = month_starts();
+    starts[month as usize]
 }
 
 // One entry a month; a line is a year. Each is the one before plus that month's days.
-pub const STARTS: [u32; 4800] = [
+const STARTS: [u32; 4800] = [
     0,
     31,
     60,

@@ -4,8 +4,7 @@ use native.Mathlib.Omega.{arith}
 use mathlib.Core.Path.{sym, _∙_, ap}
 use borrow.Author.Needs.{needs}
 use Rattle.calendar.specs.Months.{start}
-use Rattle.calendar.proofs.StartTable.{later}
-use Rattle.calendar.proofs.StartLaws.{table-start, year-2400-start}
+use Rattle.calendar.proofs.StartLaws.{year-2400-start}
 use Rattle.calendar.proofs.starts.month_start.Statement.{statement}
 use Rattle.calendar.proofs.starts.month_start.Tie as tie
 
@@ -13,8 +12,7 @@ returns : tie.Need-returns
 returns c = sym (ap start (omega arith) ∙ year-2400-start)
 
 returns-2 : tie.Need-returns-2
-unfolding later
-returns-2 c = table-start (c .before .args .month) (search needs) ∙ ap start (omega arith)
+returns-2 c = c .month-starts .ensures .entry (c .before .before .args .month) (search needs) ∙ ap start (omega arith)
 
 pub month-start-spec : {M : Type 1} → statement M
-month-start-spec = tie.close (tie.spec returns (λ c. search needs) (λ c. search needs) returns-2)
+month-start-spec = tie.close (tie.spec returns (λ c κs. search needs) (λ c. search needs) (λ c. search needs) returns-2)
