@@ -1,0 +1,4 @@
+pub mod Months
+pub mod Dates
+pub mod Next
+pub mod Promises
