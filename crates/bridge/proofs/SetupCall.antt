@@ -12,7 +12,7 @@ use Rattle.order.specs.Loops.{every, pick}
 use Rattle.order.proofs.BoolLaws.{pick-true, pick-false}
 use Rattle.book.specs.declared.parts.Counts.{Counts}
 use Rattle.book.specs.Layout.{bookWords}
-use Rattle.fit.specs.Fit.{between, countsFit}
+use Rattle.fit.specs.Fit.{mostBearings, between, countsFit}
 use Rattle.fit.proofs.FitLaws.{counts-within}
 use Rattle.register.specs.Calls.{setUp}
 use Rattle.register.specs.Promises.{after, Setup}
@@ -42,7 +42,7 @@ module _ (l : List ℕ) (full : length l ≡ bookWords) (n : Counts) (homes : Li
   setup-number =
       pick-false _ _ (passes (eq-eqb _ _ full))
       ∙ ap (λ (t : Bool). pick t 11 (pick (not (every (n .crews) (λ c. ltb (getD homes c 0) (n .depots)))) 2 0))
-      (one-test (between 1 (n .depots) 4) (between 1 (n .shelves) 4) (between 1 (n .bearings) 64) (between 1 (n .crews) 16) (eqb (length homes) (n .crews)))
+      (one-test (between 1 (n .depots) 4) (between 1 (n .shelves) 4) (between 1 (n .bearings) mostBearings) (between 1 (n .crews) 16) (eqb (length homes) (n .crews)))
 
   known : Known (table.setupNumber l n homes)
   unfolding table.setupNumber table.first

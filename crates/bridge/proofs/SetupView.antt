@@ -18,7 +18,7 @@ use Rattle.book.specs.declared.parts.Counts as book
 use Rattle.book.specs.Words.{put}
 use Rattle.book.specs.Layout.{bookWords, clockAt, stableAt, seenAt, linkOf, held, taken, heldAt, takenAt, storedAt}
 use Rattle.book.proofs.WordsLaws.{length-put, put-in, put-out, part-at}
-use Rattle.fit.specs.Fit.{between, countsFit}
+use Rattle.fit.specs.Fit.{mostBearings, between, countsFit}
 use Rattle.fit.proofs.FitLaws.{counts-within}
 use Rattle.shelf.proofs.FrameLaws.{length-part-le}
 use Rattle.register.specs.Table as table
@@ -49,15 +49,15 @@ pub setup-model : {l : List ℕ} {n : book.Counts} {homes : List ℕ} → SetUp 
 unfolding calls.setup calls.first calls.within countsFit between pick
 setup-model {l} {n} {homes} u = ap₂ (λ (a b : Bool). pick (not a) 11 (pick (not b) 2 0)) tests (u .below)
   where
-    tests : (calls.within (n .depots) 4 && (calls.within (n .shelves) 4 && (calls.within (n .bearings) 64 && (calls.within (n .crews) 16 && eqb (length homes) (n .crews))))) ≡ true
+    tests : (calls.within (n .depots) 4 && (calls.within (n .shelves) 4 && (calls.within (n .bearings) mostBearings && (calls.within (n .crews) 16 && eqb (length homes) (n .crews))))) ≡ true
     tests =
         let c = u .counts in
         let c1 = and-right (between 1 (n .depots) 4) _ c in
         let c2 = and-right (between 1 (n .shelves) 4) _ c1 in
         and-intro (and-left (between 1 (n .depots) 4) _ c)
         (and-intro (and-left (between 1 (n .shelves) 4) _ c1)
-        (and-intro (and-left (between 1 (n .bearings) 64) _ c2)
-        (and-intro (and-right (between 1 (n .bearings) 64) _ c2) (eq-eqb _ _ (u .number)))))
+        (and-intro (and-left (between 1 (n .bearings) mostBearings) _ c2)
+        (and-intro (and-right (between 1 (n .bearings) mostBearings) _ c2) (eq-eqb _ _ (u .number)))))
 
 -- ---- the words of a book that was set up
 

@@ -12,7 +12,7 @@ use borrow.Author.Tests.{leb-true, eqb-true}
 use Rattle.order.proofs.BoolLaws.{and-left, and-right, and-stop}
 use Rattle.book.specs.declared.parts.Counts.{Counts}
 use Rattle.book.specs.Layout.{bookWords, countsOf}
-use Rattle.fit.specs.Fit.{between, countsFit, Within, partsFit, fit}
+use Rattle.fit.specs.Fit.{mostBearings, between, countsFit, Within, partsFit, fit}
 
 low : (a x b : ℕ) → between a x b ≡ true → a ≤ x
 unfolding between
@@ -29,13 +29,13 @@ counts-within n h =
     let h1 = and-right (between 1 (n .depots) 4) _ h in
     let s = and-left (between 1 (n .shelves) 4) _ h1 in
     let h2 = and-right (between 1 (n .shelves) 4) _ h1 in
-    let k = and-left (between 1 (n .bearings) 64) _ h2 in
-    let c = and-right (between 1 (n .bearings) 64) _ h2 in
+    let k = and-left (between 1 (n .bearings) mostBearings) _ h2 in
+    let c = and-right (between 1 (n .bearings) mostBearings) _ h2 in
     record {
       depots = high 1 (n .depots) 4 d;
       shelf = low 1 (n .shelves) 4 s;
       shelves = high 1 (n .shelves) 4 s;
-      bearings = le-trans (high 1 (n .bearings) 64 k) (lit≤ tt);
+      bearings = le-trans (high 1 (n .bearings) mostBearings k) (lit≤ tt);
       crews = high 1 (n .crews) 16 c;
     }
 

@@ -12,7 +12,7 @@ use borrow.Author.Tests.{eqb-false, ltb-true, ltb-false, leb-true, leb-false, le
 use Rattle.order.specs.Loops.{pick, every}
 use Rattle.order.proofs.BoolLaws.{and-left, and-right, both-ways}
 use Rattle.order.proofs.LoopLaws.{every-at}
-use Rattle.model.specs.Parts.{Counts, State, fresh, end}
+use Rattle.model.specs.Parts.{Counts, State, mostBearings, fresh, end}
 use Rattle.model.specs.Rules.{roomy}
 use Rattle.model.specs.Calls.{read, write, tick, take, refresh, first, none, within, setup, shelfOf, refusal}
 use Rattle.model.proofs.Places.{Other}
@@ -147,10 +147,10 @@ module _ (π : Counts) where
   pub set-up : (homes : List ℕ) → setup π homes ≡ 0 → SetUp homes
   unfolding setup within fresh
   set-up homes e =
-      let a = first-none (not (within (π .depots) 4 && (within (π .shelves) 4 && (within (π .bearings) 64 && (within (π .crews) 16 && eqb (length homes) (π .crews)))))) 10 _ e in
+      let a = first-none (not (within (π .depots) 4 && (within (π .shelves) 4 && (within (π .bearings) mostBearings && (within (π .crews) 16 && eqb (length homes) (π .crews)))))) 10 _ e in
       let b = first-none (not (every (π .crews) (λ c. ltb (getD homes c 0) (π .depots)))) 1 _ (a .1) in
-      let counts = and-right (within (π .depots) 4) (within (π .shelves) 4 && (within (π .bearings) 64 && (within (π .crews) 16 && eqb (length homes) (π .crews)))) (not-none _ (a .0)) in
-      let shelves = and-left (within (π .shelves) 4) (within (π .bearings) 64 && (within (π .crews) 16 && eqb (length homes) (π .crews))) counts in
+      let counts = and-right (within (π .depots) 4) (within (π .shelves) 4 && (within (π .bearings) mostBearings && (within (π .crews) 16 && eqb (length homes) (π .crews)))) (not-none _ (a .0)) in
+      let shelves = and-left (within (π .shelves) 4) (within (π .bearings) mostBearings && (within (π .crews) 16 && eqb (length homes) (π .crews))) counts in
       record {
         shelves = leb-true 1 (π .shelves) (and-left (leb 1 (π .shelves)) (leb (π .shelves) 4) shelves);
         housed = λ c h. ltb-true _ _ (every-at (π .crews) _ (not-none _ (b .0)) c h);
