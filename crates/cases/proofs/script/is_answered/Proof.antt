@@ -8,7 +8,10 @@ use Rattle.cases.proofs.script.is_answered.Statement.{statement}
 use Rattle.cases.proofs.script.is_answered.Tie as tie
 
 slice-reshare-prefix-same : tie.Need-slice-reshare-prefix-same
-slice-reshare-prefix-same c = answer-room _ _ (c .before .before .before .before .answer-line .ensures .1) (c .before .before .before .before .before .before .before .before .before .before .before .before .pre .0)
+slice-reshare-prefix-same c =
+    let call = c .before .before .before .before in
+    let start = call .before .before .before .before .before .before .before .before in
+    answer-room _ _ (call .answer-line .ensures .1) (start .pre .0)
 
 slice-aggregate-same : tie.Need-slice-aggregate-same
 slice-aggregate-same c = sym (length-take-le _ _ (slice-reshare-prefix-same (c .before)))

@@ -33,22 +33,34 @@ on : {at end stop n : ℕ} → at < n → (at < n → at < end) × (at ≤ n →
 on test end stop = let past = stop .1 (end .1 (le-of-lt test) .1) in (omega (arith, end .0 test, past .0), past .1)
 
 loop-less : tie.Need-loop-less Inv-loop μ-loop
-loop-less c = omega (arith, on (c .before .before .before .before .before .before .before .before .before .before .loop-test .taken) (c .before .before .before .before .before .before .before .before .before .line-after .ensures) (c .before .before .before .before .before .before .before .before .line-after2 .ensures) .0)
+loop-less c =
+    let call = c .before .before .before .before .before in
+    let stop = call .before .before .before in
+    let end = stop .before in
+    omega (arith, on (end .before .loop-test .taken) (end .line-after .ensures) (stop .line-after2 .ensures) .0)
 
 loop-again : tie.Need-loop-again Inv-loop μ-loop
 loop-again c =
-    let call = c .before .before .before .before .before .is-answered in
-    let inv = c .before .before .before .before .before .before .before .before .before .before .before .loop .inv in
-    (call .kept .0 ∙ inv .0, call .kept .1 .0 ∙ inv .1, on (c .before .before .before .before .before .before .before .before .before .before .loop-test .taken) (c .before .before .before .before .before .before .before .before .before .line-after .ensures) (c .before .before .before .before .before .before .before .before .line-after2 .ensures) .1)
+    let call = c .before .before .before .before .before in
+    let stop = call .before .before .before in
+    let end = stop .before in
+    let inv = end .before .before .loop .inv in
+    (call .is-answered .kept .0 ∙ inv .0, call .is-answered .kept .1 .0 ∙ inv .1, on (end .before .loop-test .taken) (end .line-after .ensures) (stop .line-after2 .ensures) .1)
 
 loop-less-2 : tie.Need-loop-less-2 Inv-loop μ-loop
-loop-less-2 c = omega (arith, on (c .before .before .before .before .before .before .before .before .before .before .loop-test .taken) (c .before .before .before .before .before .before .before .before .before .line-after .ensures) (c .before .before .before .before .before .before .before .before .line-after2 .ensures) .0)
+loop-less-2 c =
+    let call = c .before .before .before .before .before in
+    let stop = call .before .before .before in
+    let end = stop .before in
+    omega (arith, on (end .before .loop-test .taken) (end .line-after .ensures) (stop .line-after2 .ensures) .0)
 
 loop-again-2 : tie.Need-loop-again-2 Inv-loop μ-loop
 loop-again-2 c =
-    let call = c .before .before .before .before .before .is-answered in
-    let inv = c .before .before .before .before .before .before .before .before .before .before .before .loop .inv in
-    (call .kept .0 ∙ inv .0, call .kept .1 .0 ∙ inv .1, on (c .before .before .before .before .before .before .before .before .before .before .loop-test .taken) (c .before .before .before .before .before .before .before .before .before .line-after .ensures) (c .before .before .before .before .before .before .before .before .line-after2 .ensures) .1)
+    let call = c .before .before .before .before .before in
+    let stop = call .before .before .before in
+    let end = stop .before in
+    let inv = end .before .before .loop .inv in
+    (call .is-answered .kept .0 ∙ inv .0, call .is-answered .kept .1 .0 ∙ inv .1, on (end .before .loop-test .taken) (end .line-after .ensures) (stop .line-after2 .ensures) .1)
 
 same-length : tie.Need-same-length Inv-loop μ-loop
 same-length c = c .before .loop .inv .0
