@@ -44,7 +44,7 @@ enum depot_answer {
     DEPOT_BAD_LINE = 13      /* depot_line only */
 };
 
-/* Makes a fresh register: 1 to 4 depots, 1 to 4 shelves in each, 1 to 64 bearings, 1 to 16 crews, and the home depot of
+/* Makes a fresh register: 1 to 4 depots, 1 to 4 shelves in each, 1 to 160 bearings, 1 to 16 crews, and the home depot of
  * each crew. Writes every word of the book; its old words are not looked at. Checks: 1, 11, 2. */
 uint32_t depot_setup(uint32_t *book, size_t words, uint32_t depots, uint32_t shelves, uint32_t bearings, uint32_t crews,
                      const uint32_t *homes, size_t homes_count);

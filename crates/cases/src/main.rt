@@ -1,4 +1,4 @@
-// The worked cases (a) to (i) of the paper's "Entries on both sides", each run and compared. A script has lines of the desk, each with its answer after it.
+// The worked cases (a) to (i) of the paper's "Entries on both sides", and those of later requests, each run and compared. A script has lines of the desk, each with its answer after it.
 mod script;
 
 use book::layout::BOOK_WORDS;
@@ -188,6 +188,28 @@ fn case_i(book: &mut [u32], out: &mut [u8]) -> bool
     fresh && ticked && written
 }
 
+// (j) the last of 160 bearings, on four depots: written at depot 0, read at the others. 161 are BAD COUNTS, bearing 160 is BAD KEY.
+fn case_j(book: &mut [u32], out: &mut [u8]) -> bool
+    requires { ⌜ answerRoom ≤ length (now out) ⌝ }
+{
+    let written = runs(
+        book,
+        out,
+        b"S 4 1 161 4 0 1 2 3\n11\nS 4 1 160 4 0 1 2 3\n0\nW 0 160 7\n4\nW 0 159 7\n0 1 C\n",
+    );
+    let carried = runs(
+        book,
+        out,
+        b"T 1 0 0\n0\nT 2 0 0\n0\nT 3 0 0\n0\nF 1 0\n0\nF 2 0\n0\nF 3 0\n0\n",
+    );
+    let read = runs(
+        book,
+        out,
+        b"R 1 159\n0 7 1 0 0 0\nR 2 159\n0 7 1 0 0 0\nR 3 159\n0 7 1 0 0 0\n",
+    );
+    written && carried && read
+}
+
 // Says how a case went.
 fn tell(letter: u8, good: bool) {
     let name = [b'(', letter, b')', b' '];
@@ -218,6 +240,7 @@ fn from_setup(book: &mut [u32], out: &mut [u8])
     tell(b'g', case_g(book, out));
     tell(b'h', case_h(book, out));
     tell(b'i', case_i(book, out));
+    tell(b'j', case_j(book, out));
 }
 
 fn main() {

@@ -15,7 +15,7 @@ use Rattle.book.specs.Layout.{copyKind, beatKind, kindOf, beatOf, recordOf}
 
 -- how many bearings a register may have
 abbrev pub mostBearings : ℕ
-mostBearings = 64
+mostBearings = 160
 
 -- ---- numbers and vectors
 

@@ -21,7 +21,7 @@ ghost use Rattle.book.specs.Layout.{bookWords, mostShelves, mostCrews};
 ghost use Rattle.fit.specs.Fit.{between, countsFit, homeFit, othersInRange, crewFit, shelfFit};
 
 // How many bearings a register may have, and the other limits.
-pub const MOST_BEARINGS: usize = 64;
+pub const MOST_BEARINGS: usize = 160;
 
 pub const MOST_SHELVES: usize = 4;
 

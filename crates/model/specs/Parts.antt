@@ -24,7 +24,7 @@ abbrev pub mostShelves : ℕ
 mostShelves = 4
 
 abbrev pub mostBearings : ℕ
-mostBearings = 64
+mostBearings = 160
 
 abbrev pub mostCrews : ℕ
 mostCrews = 16

@@ -18,7 +18,7 @@ fn main() {
     println!("{} mixed events, median of {} runs, nanoseconds an event:\n", count, RUNS);
     println!("| register | done | library | straight | library / straight |");
     println!("|---|---|---|---|---|");
-    for counts in [[2, 2, 4, 2], [3, 2, 32, 8], [4, 4, 64, 16]] {
+    for counts in [[2, 2, 4, 2], [3, 2, 32, 8], [4, 4, 160, 16]] {
         let (start, events) = mixed(counts, count);
         events_row(counts, &start, &events);
     }

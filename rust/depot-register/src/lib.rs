@@ -64,7 +64,7 @@ pub struct Counts {
     pub depots: u32,
     /// In each depot, 1 to 4.
     pub shelves: u32,
-    /// 1 to 64.
+    /// 1 to 160.
     pub bearings: u32,
     /// 1 to 16.
     pub crews: u32,
@@ -82,7 +82,7 @@ impl Register {
     ///
     /// ```
     /// # use depot_register::{Counts, Depot, Refusal, Register};
-    /// let counts = Counts { depots: 2, shelves: 4, bearings: 64, crews: 1 };
+    /// let counts = Counts { depots: 2, shelves: 4, bearings: 160, crews: 1 };
     /// assert!(Register::setup(counts, &[Depot(1)]).is_ok());
     /// assert_eq!(Register::setup(counts, &[Depot(2)]), Err(Refusal::BadDepot));
     /// assert_eq!(Register::setup(counts, &[]), Err(Refusal::BadCounts));

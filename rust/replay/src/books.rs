@@ -31,7 +31,7 @@ pub fn wrong_setup(random: &mut Random) -> Event {
     };
     if random.percent(40) {
         let any = random.word();
-        counts[random.below(4)] = random.choose(&[0, 5, 17, 65, 16, 64, 1 << 31, u32::MAX, any]);
+        counts[random.below(4)] = random.choose(&[0, 5, 17, 161, 16, 160, 1 << 31, u32::MAX, any]);
     }
     if random.percent(40) {
         homes.resize(random.choose(&[0, 1, 15, 16, 17, 20, 40, 1000]), 0);

@@ -300,7 +300,7 @@ impl Generator {
                 let any = random.word();
                 let count = count as u32;
                 *number =
-                    random.choose(&[count, count.wrapping_add(1), count.wrapping_sub(1), 4, 16, 64, 65, 1 << 31, u32::MAX, any]);
+                    random.choose(&[count, count.wrapping_add(1), count.wrapping_sub(1), 4, 16, 160, 161, 1 << 31, u32::MAX, any]);
             }
         };
         match &mut event {

@@ -85,7 +85,7 @@ fn last_number(line: &mut Vec<u8>, number: &str) {
 /// A setup line of right form whose length is near 120.
 fn of_length(random: &mut Random) -> Vec<u8> {
     let length = random.between(118, 123);
-    let mut line = b"S 4 4 64 16".to_vec();
+    let mut line = b"S 4 4 160 16".to_vec();
     for home in 0..16 {
         let left = length - line.len() - 2 * (15 - home);
         line.push(b' ');
@@ -98,7 +98,7 @@ fn of_length(random: &mut Random) -> Vec<u8> {
 fn many_numbers(random: &mut Random) -> Vec<u8> {
     let count = random.choose(&[0, 1, 2, 3, 3, 3, 4, 4, 4, 5, 20, 21, 21, 21, 21, 22, 24]);
     let depots = random.between(1, 4);
-    let counts = [depots, random.between(1, 4), random.between(1, 64), count.max(4) - 4];
+    let counts = [depots, random.between(1, 4), random.between(1, 160), count.max(4) - 4];
     let numbers = counts.into_iter().chain((0..20).map(|_| random.below(depots))).take(count);
     numbers.fold("S".to_string(), |line, number| format!("{} {}", line, number)).into_bytes()
 }

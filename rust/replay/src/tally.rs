@@ -28,7 +28,7 @@ marks! {
     TwoDepots: "a call on a book of two depots",
     ThreeDepots: "a call on a book of three depots",
     FourDepots: "a call on a book of four depots",
-    MostOfAll: "a call on a book of 4 shelves, 64 bearings or 16 crews",
+    MostOfAll: "a call on a book of 4 shelves, 160 bearings or 16 crews",
     Unwritten: "a read of an unwritten bearing",
     CrewRaised: "a read that raises its crew's vector",
     StableRaised: "a call that raises a stable entry",

@@ -9,7 +9,7 @@ pub const ROOM: u32 = 16;
 
 pub const MOST_DEPOTS: u32 = 4;
 pub const MOST_SHELVES: u32 = 4;
-pub const MOST_BEARINGS: u32 = 64;
+pub const MOST_BEARINGS: u32 = 160;
 pub const MOST_CREWS: u32 = 16;
 
 /// The words of a version record, and where its parts lie in it.

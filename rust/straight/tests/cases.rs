@@ -139,7 +139,7 @@ fn case_i_one_depot() {
 fn setup_looks_at_no_old_word() {
     let mut book = vec![u32::MAX; WORDS];
     assert_eq!(read(&mut book, 0, 0), Err(Refusal::BadBook));
-    assert_eq!(setup(&mut book, 4, 4, 64, 16, &[3; 16]), DONE);
+    assert_eq!(setup(&mut book, 4, 4, 160, 16, &[3; 16]), DONE);
     assert_eq!(book.iter().filter(|&&word| word != 0).count(), 20);
     assert!(is_fit(&book));
     assert!(!is_fit(&[0; WORDS]), "a book of zeros");
@@ -177,7 +177,7 @@ fn the_order() {
 fn lines_that_are_bad() {
     let answer = |text: &str| line(&mut fresh(), text.as_bytes());
     let long = |bytes: usize| {
-        let mut text = "S 4 4 64 16".to_string();
+        let mut text = "S 4 4 160 16".to_string();
         for home in 0..16 {
             let left = bytes - text.len() - 2 * (15 - home);
             text += &format!(" {}", "4000000000".get(..(left - 1).min(10)).unwrap());
@@ -191,7 +191,7 @@ fn lines_that_are_bad() {
         assert!(answer(good).starts_with('0'), "{}", good);
     }
     assert_eq!(answer("S 1 1 1 0"), "11\n");
-    assert_eq!(answer(&format!("S 4 4 64 17{}", " 0".repeat(16))), "11\n", "20 numbers");
+    assert_eq!(answer(&format!("S 4 4 160 17{}", " 0".repeat(16))), "11\n", "20 numbers");
     let bad = [
         "", " ", "R", "R ", "R 0", "R 0 ", "R 0 0 ", "R 0 0 0", " R 0 0", "R  0 0", "R 0  0", "R 00 0", "R 01 0", "R -1 0",
         "R +1 0", "R 0 0\r", "r 0 0", "RR 0 0", "R0 0", "W 0 0 4294967296", "W 0 0 9999999999", "W 0 0 00000000001", "W 0 0",
@@ -200,7 +200,7 @@ fn lines_that_are_bad() {
     for text in bad {
         assert_eq!(answer(text), "13\n", "{:?}", text);
     }
-    assert_eq!(answer(&format!("S 4 4 64 16{}", " 0".repeat(17))), "13\n", "21 numbers");
+    assert_eq!(answer(&format!("S 4 4 160 16{}", " 0".repeat(17))), "13\n", "21 numbers");
 }
 
 #[test]
