@@ -5,7 +5,7 @@ use native.Mathlib.Nat.{add-zero, le-refl, le-of-eq}
 use native.Mathlib.Numerals.{add-one}
 use native.Mathlib.Omega.{arith}
 use mathlib.Core.Path.{_≡_, refl, sym, _∙_, ap, ap₂, subst}
-use mathlib.Core.List.{List}
+use mathlib.Core.List.{List, [], _∷_}
 use mathlib.Core.Bool.{Bool, true, false, not, _&&_, and-false}
 use lib.Dec.{eqb, ltb, lit≤}
 use borrow.Author.Tests.{eq-eqb, ne-eqb, lt-ltb, le-ltb}
@@ -17,12 +17,12 @@ use Rattle.order.specs.Vector.{Vec, vectorIn, covered}
 use Rattle.order.proofs.VectorLaws.{covered-same}
 use Rattle.order.specs.Record.{recordWords, bearingOf, vectorOf, rankOf}
 use Rattle.order.proofs.BoolLaws.{pick-true, pick-false, and-intro, and-stop}
-use Rattle.order.proofs.LoopLaws.{times-none, times-more}
+use Rattle.order.proofs.LoopLaws.{times-none, times-more, times-done}
 use Rattle.book.specs.Words.{part, put}
 use Rattle.book.specs.Layout.{end, slotRecord, slotVector, slotStamp, slotAt, storedAt, stableAt, seenAt, heldAt, takenAt, linkOf, beatKind, stored, stable, slot, held, taken, kindOf, recordOf}
 use Rattle.book.proofs.WordsLaws.{part-from, part-at, part-part}
 use Rattle.shelf.specs.Asks.{Sound, Ready, Free}
-use Rattle.shelf.specs.Send.{sentTo, stampFrom, movedOn, took, lowest, lowestSeen}
+use Rattle.shelf.specs.Send.{sentTo, stampFrom, movedOn, took, lowest, lowestSeen, fourOf}
 use Rattle.shelf.specs.Show.{Sweep, keptIn, closedUp, withHead, sweepOne, swept, sweptUp, shownLink}
 use Rattle.shelf.proofs.FrameLaws.{swept-kept, swept-later}
 use Rattle.shelf.proofs.ShowFrame.{showTurn, show-turns-sound}
@@ -217,20 +217,27 @@ pub lowest-none : (d x : ℕ) (l : List ℕ) → end ≡ lowest 0 d x l
 unfolding lowest
 lowest-none d x l = times-none _ _
 
+-- one more shelf: the minimum with what it has seen from depot x, read where that stands
 pub lowest-more :
-    (s d x : ℕ) (l : List ℕ) {m r at i own : ℕ} → m ≡ lowest s d x l → r ≡ min m (getD l (at + own) 0) → at ≡ seenAt d i → i ≡ s → own ≡ x → r ≡ lowest (s + 1) d x l
+    (s d x : ℕ) (l : List ℕ) {m r at i place : ℕ} → m ≡ lowest s d x l → r ≡ min m (getD l place 0) → place ≡ at + x → at ≡ seenAt d i → i ≡ s → r ≡ lowest (s + 1) d x l
 unfolding lowest
-lowest-more s d x l {m} p q a i o =
-    times-more s _ _ p (q ∙ ap₂ (λ (y z : ℕ). min m (getD l (y + z) 0)) (a ∙ ap (seenAt d) i) o)
+lowest-more s d x l {m} p q o a i =
+    times-more s _ _ p (q ∙ ap (λ (y : ℕ). min m (getD l y 0)) (o ∙ ap (λ (y : ℕ). y + x) (a ∙ ap (seenAt d) i)))
 
-pub lowest-past : (n p d x : ℕ) (l : List ℕ) → n ≤ x → 0 ≡ lowestSeen n p d l x
-unfolding lowestSeen
-lowest-past n p d x l h = sym (pick-false _ _ (and-stop _ (le-ltb x n h)))
+-- after the last shelf, what is told of depot x
+pub lowest-told :
+    (n d x : ℕ) (l : List ℕ) {s p m r : ℕ} → s ≤ p → p ≤ s → m ≡ lowest s d x l → r ≡ pick (ltb x n && not (eqb x d)) m 0 → r ≡ lowestSeen n p d l x
+unfolding lowest lowestSeen
+lowest-told n d x l h k e q = q ∙ ap (λ (y : ℕ). pick (ltb x n && not (eqb x d)) y 0) (times-done _ _ h k e)
 
-pub lowest-own : (n p d x : ℕ) (l : List ℕ) → x ≡ d → 0 ≡ lowestSeen n p d l x
-unfolding lowestSeen
-lowest-own n p d x l e = sym (pick-false _ _ (ap (λ (b : Bool). ltb x n && not b) (eq-eqb x d e) ∙ and-false (ltb x n)))
+pub told-past : (n d x m : ℕ) → n ≤ x → 0 ≡ pick (ltb x n && not (eqb x d)) m 0
+told-past n d x m h = sym (pick-false _ _ (and-stop _ (le-ltb x n h)))
 
-pub lowest-other : (n p d x : ℕ) (l : List ℕ) → x < n → (x ≡ d → ⊥) → lowest p d x l ≡ lowestSeen n p d l x
-unfolding lowestSeen
-lowest-other n p d x l h e = sym (pick-true _ _ (and-intro (lt-ltb x n h) (ap not (ne-eqb x d e))))
+pub told-own : (n d x m : ℕ) → x ≡ d → 0 ≡ pick (ltb x n && not (eqb x d)) m 0
+told-own n d x m e = sym (pick-false _ _ (ap (λ (b : Bool). ltb x n && not b) (eq-eqb x d e) ∙ and-false (ltb x n)))
+
+pub told-other : (n d x m : ℕ) → x < n → (x ≡ d → ⊥) → m ≡ pick (ltb x n && not (eqb x d)) m 0
+told-other n d x m h e = sym (pick-true _ _ (and-intro (lt-ltb x n h) (ap not (ne-eqb x d e))))
+
+pub four-same : (v : Vec) {a b e f : ℕ} → a ≡ v 0 → b ≡ v 1 → e ≡ v 2 → f ≡ v 3 → a ∷ b ∷ e ∷ f ∷ [] ≡ fourOf v
+four-same v p q r o = λ z. p z ∷ q z ∷ r z ∷ o z ∷ []

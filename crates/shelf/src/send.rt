@@ -17,7 +17,7 @@ use book::parts::set_seen;
 use book::parts::taken_of;
 use book::words::write_words;
 ghost use mathlib.Core.Path.{_≡_};
-ghost use mathlib.Core.Bool.{_||_};
+ghost use mathlib.Core.Bool.{_||_, _&&_, not};
 ghost use mathlib.Core.List.{List};
 ghost use Prim.Native.Nat.{ℕ, _+_, _-_, _≤_, _<_, min};
 ghost use lib.Dec.{eqb, ltb};
@@ -27,7 +27,7 @@ ghost use Rattle.order.specs.Record.{mostDepots};
 ghost use Rattle.book.specs.Layout.{bookWords, slotWords, links, linkRoom, mostShelves, beatKind, linkOf, held, taken, slot, heldAt, takenAt, kindOf};
 ghost use Rattle.shelf.specs.Asks.{Free};
 ghost use Rattle.shelf.specs.Show.{closedUp};
-ghost use Rattle.shelf.specs.Send.{roomy, sentTo, sent, stampFrom, took, lowest, lowestSeen, fourOf};
+ghost use Rattle.shelf.specs.Send.{roomy, sentTo, sent, stampFrom, took, lowestSeen, fourOf};
 
 // Whether the link of a shelf from one depot to another has room; a depot has no link to itself.
 fn has_room(book: &[u32], d: Depot, s: Shelf, to: Depot) -> bool
@@ -141,25 +141,10 @@ fn smaller(a: u32, b: u32) -> u32
     a
 }
 
-// The lowest stamp that a depot has seen from depot x, over its p shelves.
-fn lowest_from(book: &[u32], p: usize, d: Depot, x: Depot) -> u32
-    requires { ⌜ (length (now book) ≡ bookWords) × (p ≤ mostShelves) × (d .0 < mostDepots) × (x .0 < mostDepots) ⌝ }
-    ensures { λ r. ⌜ r ≡ lowest p (d .0) (x .0) (now (book .entry)) ⌝ }
-{
-    let mut least = END;
-    let mut s = 0;
-    while s < p {
-        let at = seen_at(d, Shelf::nth(s, p)) + x.index();
-        least = smaller(least, book[at]);
-        s += 1;
-    }
-    least
-}
-
-// The same for entry x of a vector of n depots: 0 for this depot itself, and past the last.
-fn lowest_entry(book: &[u32], n: usize, p: usize, d: Depot, x: usize) -> u32
-    requires { ⌜ (length (now book) ≡ bookWords) × (n ≤ mostDepots) × (p ≤ mostShelves) × (d .0 < mostDepots) ⌝ }
-    ensures { λ r. ⌜ r ≡ lowestSeen n p (d .0) (now (book .entry)) x ⌝ }
+// What is told of depot x, of n: its stamp; 0 for this depot itself, and past the last.
+fn of_other(stamp: u32, n: usize, d: Depot, x: usize) -> u32
+    requires { ⌜ d .0 < mostDepots ⌝ }
+    ensures { λ r. ⌜ r ≡ pick (ltb x n && not (eqb x (d .0))) stamp 0 ⌝ }
 {
     if n <= x {
         return 0;
@@ -167,7 +152,7 @@ fn lowest_entry(book: &[u32], n: usize, p: usize, d: Depot, x: usize) -> u32
     if x == d.index() {
         return 0;
     }
-    lowest_from(book, p, d, Depot::nth(x, n))
+    stamp
 }
 
 // For each other depot of n, the lowest stamp seen over the p shelves of a depot.
@@ -175,10 +160,23 @@ pub fn lowest_seen(book: &[u32], n: usize, p: usize, d: Depot) -> [u32; 4]
     requires { ⌜ (length (now book) ≡ bookWords) × (n ≤ mostDepots) × (p ≤ mostShelves) × (d .0 < mostDepots) ⌝ }
     ensures { λ r. ⌜ r ≡ fourOf (lowestSeen n p (d .0) (now (book .entry))) ⌝ }
 {
+    let mut first = END;
+    let mut second = END;
+    let mut third = END;
+    let mut fourth = END;
+    let mut s = 0;
+    while s < p {
+        let at = seen_at(d, Shelf::nth(s, p));
+        first = smaller(first, book[at]);
+        second = smaller(second, book[at + 1]);
+        third = smaller(third, book[at + 2]);
+        fourth = smaller(fourth, book[at + 3]);
+        s += 1;
+    }
     [
-        lowest_entry(book, n, p, d, 0),
-        lowest_entry(book, n, p, d, 1),
-        lowest_entry(book, n, p, d, 2),
-        lowest_entry(book, n, p, d, 3),
+        of_other(first, n, d, 0),
+        of_other(second, n, d, 1),
+        of_other(third, n, d, 2),
+        of_other(fourth, n, d, 3),
     ]
 }

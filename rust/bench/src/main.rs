@@ -23,6 +23,14 @@ fn main() {
         events_row(counts, &start, &events);
     }
 
+    println!("\n{} refreshes, median of {} runs, nanoseconds each:\n", count, RUNS);
+    println!("| register | done | library | straight | library / straight |");
+    println!("|---|---|---|---|---|");
+    for counts in [[2, 2, 4, 2], [4, 4, 4, 1]] {
+        let (start, _) = mixed(counts, 0);
+        events_row(counts, &start, &refreshes(counts, count));
+    }
+
     println!("\n{} lines, median of {} runs, lines a second:\n", count, RUNS);
     println!("| lines | library | straight | library / straight (time) |");
     println!("|---|---|---|---|");
@@ -62,6 +70,13 @@ fn mixed(counts: [u32; 4], count: usize) -> (Vec<u32>, Vec<Step>) {
         events.push(step);
     }
     (start, events)
+}
+
+/// Refreshes alone, of any shelf of any depot.
+fn refreshes(counts: [u32; 4], count: usize) -> Vec<Step> {
+    let mut random = Random::new(11);
+    let mut place = |count: u32| random.below(count as usize) as u32;
+    (0..count).map(|_| Step::new(Event::Refresh { depot: place(counts[0]), shelf: place(counts[1]) })).collect()
 }
 
 /// One event. A message sent to each other depot wants a take there, so takes go by the count of depots.
