@@ -3,8 +3,8 @@
  * A book is 16,384 words of 32 bits that you own and lend for the time of one call. docs/LAYOUT.md gives every word.
  * The library keeps nothing between calls, allocates nothing and calls nothing of yours.
  *
- * Every call but depot_is_fit, depot_greater and depot_line answers with a number of the table below. A refusal, any
- * number but 0, changes no word of the book and of `out`.
+ * Every call on a book but depot_is_fit and depot_line answers with a number of the table below. A refusal, any number but
+ * 0, changes no word of the book and of `out`. The calendar, at the end, needs no book and has a table of its own.
  *
  * A length that is wrong is an answer, not a crash. What C cannot tell is yours to keep: a pointer points to as many
  * elements as its length says (it may be null where the length is 0), and the buffers of one call do not overlap. The
@@ -24,6 +24,10 @@ extern "C" {
 #define DEPOT_RECORD_WORDS 9   /* words of a version record */
 #define DEPOT_READ_WORDS 6     /* room that depot_read's answer takes in `out` */
 #define DEPOT_WRITE_WORDS 2    /* room that depot_write's answer takes in `out` */
+#define DEPOT_NUMBER_WORDS 1   /* room that depot_day_number's answer takes in `out` */
+#define DEPOT_DATE_WORDS 3     /* room that depot_date_of's answer takes in `out` */
+#define DEPOT_NEXT_WORDS 4     /* room that depot_next_date's answer takes in `out` */
+#define DEPOT_LAST_DAY 146096  /* the day number of 31 December 2399 */
 #define DEPOT_LINE_BYTES 120   /* the longest line that is not a BAD LINE, its line feed not counted */
 #define DEPOT_ANSWER_BYTES 64  /* room that every answer line has, its line feed counted */
 
@@ -82,6 +86,32 @@ uint32_t depot_greater(const uint32_t *a, size_t a_words, const uint32_t *b, siz
  * start of `out`, no byte past it is written, and its length comes back. With out_length below DEPOT_ANSWER_BYTES nothing
  * is done, neither book nor `out` is written, and 0 comes back. */
 size_t depot_line(uint32_t *book, size_t words, const uint8_t *line, size_t length, uint8_t *out, size_t out_length);
+
+/* The calendar: the dates from 1 January 2000, which is day 0, to 31 December 2399. Months are 1 to 12. Any numbers get an
+ * answer. A refusal, any number but 0, writes nothing to `out`; nor does an answer for which `out` is too short, and its
+ * number comes back all the same. No element past the answer is written. */
+enum depot_date_answer {
+    DEPOT_DATE_GIVEN = 0,
+    DEPOT_BAD_DATE = 1,  /* there is no such date */
+    DEPOT_BAD_STEP = 2,  /* the step is not 1 to 120 months */
+    DEPOT_BAD_COUNT = 3, /* the count is 0 */
+    DEPOT_TOO_LATE = 4   /* the result lies after 2399; so does a day past DEPOT_LAST_DAY */
+};
+
+/* 1 if there is such a date, else 0. */
+uint32_t depot_is_date(uint32_t year, uint32_t month, uint32_t day);
+
+/* The day number of a date. Given: out[0] is the number. Refused: 1. */
+uint32_t depot_day_number(uint32_t year, uint32_t month, uint32_t day, uint32_t *out, size_t out_count);
+
+/* The date of a day number. Given: out[0] is the year, out[1] the month, out[2] the day. Refused: 4. */
+uint32_t depot_date_of(uint32_t day, uint32_t *out, size_t out_count);
+
+/* The n-th date after an anchor, in steps of `step` months: the anchor's day, or the month's last day where that month is
+ * shorter. It is counted from the anchor, never from a shortened date. Checks: 1, 2, 3, 4.
+ * Given: out[0] is the year, out[1] the month, out[2] the day, out[3] the day number. */
+uint32_t depot_next_date(uint32_t year, uint32_t month, uint32_t day, uint32_t step, uint32_t n, uint32_t *out,
+                         size_t out_count);
 
 #ifdef __cplusplus
 }

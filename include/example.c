@@ -57,6 +57,18 @@ static void brings_over(uint32_t shelf) {
     expect(depot_refresh(book, DEPOT_BOOK_WORDS, MILL, shelf), DEPOT_DONE, "refresh");
 }
 
+/* Prints the n-th date after 31 January 2023, monthly, and expects it. */
+static void falls_on(uint32_t n, uint32_t month, uint32_t day, uint32_t number) {
+    uint32_t out[DEPOT_NEXT_WORDS];
+    expect(depot_next_date(2023, 1, 31, 1, n, out, DEPOT_NEXT_WORDS), DEPOT_DATE_GIVEN, "next date");
+    printf("  next date %lu: %lu-%02lu-%02lu, day %lu\n", (unsigned long)n, (unsigned long)out[0], (unsigned long)out[1],
+           (unsigned long)out[2], (unsigned long)out[3]);
+    expect(out[0], 2023, "year");
+    expect(out[1], month, "month");
+    expect(out[2], day, "day");
+    expect(out[3], number, "day number");
+}
+
 int main(void) {
     const uint32_t homes[2] = {PUMP_HOUSE, MILL};
     const char *line = "R 1 0";
@@ -90,6 +102,13 @@ int main(void) {
     length = depot_line(book, DEPOT_BOOK_WORDS, (const uint8_t *)line, strlen(line), answer, sizeof answer);
     printf("  %s -> %.*s", line, (int)length, (const char *)answer);
     expect(length == 11 && memcmp(answer, "0 9200 2 0\n", 11) == 0, 1, "line");
+
+    puts("The calendar: monthly from 31 January 2023, each counted from the anchor.");
+    falls_on(1, 2, 28, 8459);
+    falls_on(2, 3, 31, 8490);
+    expect(depot_is_date(2023, 2, 29), 0, "29 February 2023");
+    expect(depot_day_number(2023, 2, 29, out, DEPOT_NUMBER_WORDS), DEPOT_BAD_DATE, "its day number");
+    expect(depot_date_of(DEPOT_LAST_DAY + 1, NULL, 0), DEPOT_TOO_LATE, "1 January 2400");
 
     puts("What is wrong is refused by number, and changes nothing.");
     expect(depot_tick(book, DEPOT_BOOK_WORDS, 7, 0), DEPOT_BAD_DEPOT, "bad depot");

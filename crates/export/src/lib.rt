@@ -1,6 +1,9 @@
 // The register as C calls it: each function makes one call and gives the number of its answer. include/depot_register.h declares them.
+pub mod dates;
+pub mod out;
+
+use crate::out::fill;
 use book::parts::wide;
-use book::words::write_words;
 use events::numbers::number_of;
 use events::numbers::number_of_answer;
 use events::reply::ANSWER_ROOM;
@@ -74,15 +77,6 @@ pub extern "C" fn depot_refresh(book: &mut [u32], depot: u32, shelf: u32) -> u32
 {
     let answer = refresh(book, depot, shelf);
     number_of_answer(answer)
-}
-
-// The words stand at the start of `out`, where it has room for them all.
-fn fill(out: &mut [u32], words: &[u32])
-    ensures { λ r. ⌜ now (out .exit) ≡ filled (now (words .entry)) (now (out .entry)) ⌝ }
-{
-    if words.len() <= out.len() {
-        write_words(out, 0, words);
-    }
 }
 
 // What a read found stands in `out`, and its number comes back.

@@ -44,6 +44,7 @@
 //! ```
 
 mod answers;
+pub mod calendar;
 mod numbers;
 pub mod raw;
 

@@ -14,6 +14,7 @@
 //! assert_eq!(read(&mut book, 0, 0), Ok(Reading { value: Some(20), vector: [1, 0, 0, 0] }));
 //! ```
 
+pub mod calendar;
 mod calls;
 mod desk;
 mod fit;

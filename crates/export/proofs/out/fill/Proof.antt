@@ -1,4 +1,4 @@
--- `export::fill` meets its contract: the words fit, or nothing is written.
+-- `export::out::fill` meets its contract: the words fit, or nothing is written.
 -- Assumes nothing.
 use mathlib.Core.Path.{_≡_, sym, _∙_}
 use borrow.Author.Tests.{le-leb, lt-leb}
@@ -6,8 +6,8 @@ use Rattle.order.proofs.BoolLaws.{pick-true, pick-false}
 use Rattle.book.specs.Words.{put}
 use Rattle.export.specs.Numbers.{filled}
 use borrow.Author.Needs.{needs}
-use Rattle.export.proofs.fill.Statement.{statement}
-use Rattle.export.proofs.fill.Tie as tie
+use Rattle.export.proofs.out.fill.Statement.{statement}
+use Rattle.export.proofs.out.fill.Tie as tie
 
 returns : tie.Need-returns
 unfolding filled put

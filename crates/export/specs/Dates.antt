@@ -1,0 +1,28 @@
+-- The number that C gets for each answer of the calendar, and what a call leaves in `out`.
+-- Assumes nothing.
+use Prim.Native.Nat.{ℕ}
+use mathlib.Core.List.{List, [], _∷_}
+use Rattle.calendar.specs.Dates.{refusalNumber}
+use Rattle.calendar.specs.declared.answers.DateAnswer.{DateAnswer}
+use Rattle.calendar.specs.declared.answers.DateAnswer.the-variants.{Refused, On}
+use Rattle.export.specs.Numbers.{filled}
+
+-- the number of an answer: 0 for a date, else the refusal's
+abbrev pub dateNumber : DateAnswer → ℕ
+dateNumber (Refused r) = refusalNumber r
+dateNumber (On d k) = 0
+
+-- what the question for a day number leaves in `out`: the number; nothing if refused
+abbrev pub numberOut : DateAnswer → List ℕ → List ℕ
+numberOut (Refused r) o = o
+numberOut (On d k) o = filled (k ∷ []) o
+
+-- what the question for a day's date leaves in `out`: year, month and day; nothing if refused
+abbrev pub dateOut : DateAnswer → List ℕ → List ℕ
+dateOut (Refused r) o = o
+dateOut (On d k) o = filled (d .year ∷ d .month ∷ d .day ∷ []) o
+
+-- what the question for a next date leaves in `out`: year, month, day and day number; nothing if refused
+abbrev pub nextOut : DateAnswer → List ℕ → List ℕ
+nextOut (Refused r) o = o
+nextOut (On d k) o = filled (d .year ∷ d .month ∷ d .day ∷ k ∷ []) o
