@@ -1,5 +1,5 @@
--- The order of versions. It is sealed: whoever stands outside this crate uses its laws alone (proofs/OrderLaws.antt), because the
--- definition will change.
+-- The order of versions. It is sealed: whoever stands outside this crate uses its laws alone (proofs/OrderLaws.antt), so that only this crate
+-- follows a change of the definition.
 -- Assumes nothing.
 use Prim.Native.Nat.{ℕ, zero, suc}
 use mathlib.Core.Path.{_≡_, refl}

@@ -4,7 +4,7 @@
 use Prim.Native.Nat.{_≤_, _-_, _*_}
 use native.Mathlib.Nat.{le-antisymm}
 use native.Mathlib.Omega.{arith}
-use mathlib.Core.Path.{_≡_, refl, sym}
+use mathlib.Core.Path.{_≡_, sym}
 use borrow.Author.Needs.{needs}
 use Rattle.order.specs.Vector.{vectorIn, sum}
 use Rattle.order.proofs.VectorLaws.{sum-none, sum-more}
