@@ -210,6 +210,29 @@ fn case_j(book: &mut [u32], out: &mut [u8]) -> bool
     written && carried && read
 }
 
+// (k) sums first: (0, 5) is greater than (1, 0), so both depots end with the second depot's 9.
+fn case_k(book: &mut [u32], out: &mut [u8]) -> bool
+    requires { ⌜ answerRoom ≤ length (now out) ⌝ }
+{
+    let fresh = runs(book, out, b"S 2 1 4 2 0 1\n0\nW 0 0 7\n0 1 C\n");
+    let ticked = repeated(book, out, b"K 1 0\n0\n", 4);
+    let written = runs(book, out, b"W 1 0 9\n0 5 C\n");
+    let taken = repeated(book, out, b"T 0 0 1\n0\n", 5);
+    let shown = runs(book, out, b"F 0 0\n0\nR 0 0\n0 9 0 5\nT 1 0 0\n0\nF 1 0\n0\nR 1 0\n0 9 0 5\n");
+    fresh && ticked && written && taken && shown
+}
+
+// (l) equal sums go entry by entry from depot 0 on: (2, 0) is greater than (1, 1), so the first depot's 8 stays.
+fn case_l(book: &mut [u32], out: &mut [u8]) -> bool
+    requires { ⌜ answerRoom ≤ length (now out) ⌝ }
+{
+    let fresh = runs(book, out, b"S 2 1 4 2 0 1\n0\nW 0 0 7\n0 1 C\nT 1 0 0\n0\nF 1 0\n0\nR 1 0\n0 7 1 0\n");
+    let written = runs(book, out, b"W 0 0 8\n0 2 C\nW 1 0 9\n0 1 C\n");
+    let taken = runs(book, out, b"T 0 0 1\n0\nF 0 0\n0\nT 1 0 0\n0\nF 1 0\n0\n");
+    let read = runs(book, out, b"R 0 0\n0 8 2 0\nR 1 0\n0 8 2 0\n");
+    fresh && written && taken && read
+}
+
 // Says how a case went.
 fn tell(letter: u8, good: bool) {
     let name = [b'(', letter, b')', b' '];
@@ -240,7 +263,15 @@ fn from_setup(book: &mut [u32], out: &mut [u8])
     tell(b'g', case_g(book, out));
     tell(b'h', case_h(book, out));
     tell(b'i', case_i(book, out));
+}
+
+// Those of later requests.
+fn from_requests(book: &mut [u32], out: &mut [u8])
+    requires { ⌜ answerRoom ≤ length (now out) ⌝ }
+{
     tell(b'j', case_j(book, out));
+    tell(b'k', case_k(book, out));
+    tell(b'l', case_l(book, out));
 }
 
 fn main() {
@@ -248,4 +279,5 @@ fn main() {
     let mut out = [0u8; 64];
     from_listing(&mut book, &mut out);
     from_setup(&mut book, &mut out);
+    from_requests(&mut book, &mut out);
 }

@@ -7,9 +7,10 @@ use mathlib.Core.Logic.{_⊎_, inl, inr, ⊎-elim}
 use mathlib.Core.Bool.{true, false, not}
 use Rattle.order.specs.Vector.{Vec, zeros}
 use Rattle.order.specs.Order.{Rank, above, above-is}
-use Rattle.order.proofs.BoolLaws.{decided, failed, both-ways, le-or-lt, eq-or-ne}
-use Rattle.order.proofs.VectorLaws.{zeros-at, zeros-same, written-at}
-use Rattle.order.proofs.OrderForm.{First, Compared, equal, ahead, behind, compared, Above, leading, higher, open-above, close-above}
+use Rattle.order.proofs.BoolLaws.{decided, failed, both-ways, le-or-lt}
+use Rattle.order.proofs.VectorLaws.{zeros-same, sum-less}
+use Rattle.order.proofs.OrderForm.{heavier, ahead-never, ahead-trans, ahead-same, ahead-written, Compared, equal, ahead, behind, compared}
+use Rattle.order.proofs.OrderForm.{Above, leading, higher, open-above, close-above}
 
 -- a written vector on the strength of another with the same entries
 carried : (n : ℕ) (u v : Vec) → ((x : ℕ) → x < n → u x ≡ v x) → zeros n u ≡ false → zeros n v ≡ false
@@ -17,26 +18,9 @@ carried n u v e w = sym (zeros-same n u v e) ∙ w
 
 joined : {n : ℕ} {a b c : Rank} → Above n a b → Above n b c → Above n a c
 joined {n} {a} {b} {c} (higher w e l) (higher w′ e′ l′) = higher w (λ x h. e x h ∙ e′ x h) (omega arith)
-joined {n} {a} {b} {c} (higher w e l) (leading f) =
-    leading (record { place = f .place; inside = f .inside; greater = rw (e (f .place) (f .inside)) (f .greater); equal = λ y h. e y (before f h) ∙ f .equal y h })
-  where
-    before : (f : First n (b .vector) (c .vector)) {y : ℕ} → y < f .place → y < n
-    before f h = let i = f .inside in omega arith
-joined {n} {a} {b} {c} (leading f) (higher w e l) =
-    leading (record { place = f .place; inside = f .inside; greater = rw (← e (f .place) (f .inside)) (f .greater); equal = λ y h. f .equal y h ∙ e y (before f h) })
-  where
-    before : (f : First n (a .vector) (b .vector)) {y : ℕ} → y < f .place → y < n
-    before f h = let i = f .inside in omega arith
-joined {n} {a} {b} {c} (leading f) (leading g) = leading (go (le-or-lt (f .place) (g .place)))
-  where
-    go : (f .place ≤ g .place) ⊎ (g .place < f .place) → First n (a .vector) (c .vector)
-    go (inr l) =
-        record { place = g .place; inside = g .inside; greater = rw (f .equal (g .place) l) (g .greater); equal = λ y h. f .equal y (omega arith) ∙ g .equal y h }
-    go (inl l) = record { place = f .place; inside = f .inside; greater = at (eq-or-ne (f .place) (g .place)); equal = λ y h. f .equal y h ∙ g .equal y (omega arith) }
-      where
-        at : (f .place ≡ g .place) ⊎ (f .place ≡ g .place → ⊥) → c .vector (f .place) < a .vector (f .place)
-        at (inl e) = let p = f .greater in let q : c .vector (f .place) < b .vector (f .place) = rw e (g .greater) in omega arith
-        at (inr e) = let p = f .greater in let q = g .equal (f .place) (omega arith) in omega arith
+joined {n} {a} {b} {c} (higher w e l) (leading f) = leading (ahead-same (λ x h. sym (e x h)) (λ x h. refl) f)
+joined {n} {a} {b} {c} (leading f) (higher w e l) = leading (ahead-same (λ x h. refl) e f)
+joined {n} {a} {b} {c} (leading f) (leading g) = leading (ahead-trans f g)
 
 -- ---- the laws
 
@@ -45,7 +29,7 @@ pub above-irrefl : (n : ℕ) (a : Rank) → above n a a ≡ false
 above-irrefl n a = failed _ λ h. never (open-above h)
   where
     never : Above n a a → ⊥
-    never (leading f) = let g = f .greater in omega arith
+    never (leading f) = ahead-never (λ x l. refl) f
     never (higher w e l) = omega arith
 
 pub above-trans : (n : ℕ) (a b c : Rank) → above n a b ≡ true → above n b c ≡ true → above n a c ≡ true
@@ -79,12 +63,7 @@ above-total n a b wa wb p q = go (compared n (a .vector) (b .vector))
 -- entrywise at least as great, with a difference, is above: so a version that rests on another is the greater
 pub above-entrywise :
     (n : ℕ) (a b : Rank) → ((x : ℕ) → x < n → b .vector x ≤ a .vector x) → (x : ℕ) → x < n → b .vector x < a .vector x → above n a b ≡ true
-above-entrywise n a b all x l more = go (compared n (a .vector) (b .vector))
-  where
-    go : Compared n (a .vector) (b .vector) → above n a b ≡ true
-    go (ahead f) = close-above (leading f)
-    go (behind f) = let g = f .greater in let h = all (f .place) (f .inside) in absurd (omega arith)
-    go (equal e) = let h = e x l in absurd (omega arith)
+above-entrywise n a b all x l more = close-above (leading (heavier (sum-less n (b .vector) (a .vector) all x l more)))
 
 -- an unwritten one is above nothing, and below every written one
 pub above-unwritten : (n : ℕ) (a b : Rank) → zeros n (a .vector) ≡ true → above n a b ≡ false
@@ -95,7 +74,7 @@ above-written n a b w z = go (compared n (a .vector) (b .vector))
   where
     go : Compared n (a .vector) (b .vector) → above n a b ≡ true
     go (ahead f) = close-above (leading f)
-    go (behind f) = let g = f .greater in let h = zeros-at n (b .vector) z (f .place) (f .inside) in absurd (omega arith)
+    go (behind f) = absurd (both-ways z (ahead-written f))
     go (equal e) = absurd (both-ways z (carried n _ _ e w))
 
 -- so what is above an unwritten one is whatever is written
@@ -115,14 +94,7 @@ above-cong n a b c d ea oa eb ob = go (decided (above n a b)) (decided (above n 
     moved :
         {a b c d : Rank} → ((x : ℕ) → x < n → a .vector x ≡ c .vector x) → a .origin ≡ c .origin →
         ((x : ℕ) → x < n → b .vector x ≡ d .vector x) → b .origin ≡ d .origin → Above n a b → Above n c d
-    moved ea oa eb ob (leading f) =
-        leading
-        (record {
-          place = f .place;
-          inside = f .inside;
-          greater = let g = f .greater in let p = ea (f .place) (f .inside) in let q = eb (f .place) (f .inside) in omega arith;
-          equal = λ y h. let i = f .inside in sym (ea y (omega arith)) ∙ f .equal y h ∙ eb y (omega arith);
-        })
+    moved ea oa eb ob (leading f) = leading (ahead-same ea eb f)
     moved ea oa eb ob (higher w e l) = higher (carried n _ _ ea w) (λ x h. sym (ea x h) ∙ e x h ∙ eb x h) (omega arith)
 
     back : {u v : Vec} → ((x : ℕ) → x < n → u x ≡ v x) → (x : ℕ) → x < n → v x ≡ u x
@@ -139,7 +111,7 @@ pub above-split : (n : ℕ) (a b c : Rank) → above n a c ≡ true → (above n
 above-split n a b c h = go (compared n (a .vector) (b .vector))
   where
     written : Above n a c → zeros n (a .vector) ≡ false
-    written (leading f) = let g = f .greater in written-at n (a .vector) (f .place) (f .inside) (omega arith)
+    written (leading f) = ahead-written f
     written (higher w e l) = w
 
     go : Compared n (a .vector) (b .vector) → (above n a b ≡ true) ⊎ (above n b c ≡ true)

@@ -1,6 +1,6 @@
 -- What counts of words that are handed in as a record: the record itself where the length is right, else an unwritten one.
 -- Assumes nothing.
-use Prim.Native.Nat.{ℕ, _≤_}
+use Prim.Native.Nat.{ℕ, _≤_, _<_}
 use native.Mathlib.Nat.{lt-of-lt-of-le}
 use mathlib.Core.Path.{_≡_, refl, _∙_, ap}
 use mathlib.Core.List.{List}
@@ -8,11 +8,11 @@ use mathlib.Core.Bool.{true}
 use lib.ListN.{length, take, drop}
 use lib.Seq.{getD-take, getD-drop}
 use borrow.Author.Tests.{eq-eqb, ne-eqb}
-use Rattle.order.specs.Vector.{vectorIn, zeros}
+use Rattle.order.specs.Vector.{vectorIn, zeros, sum}
 use Rattle.order.specs.Order.{Rank}
 use Rattle.order.specs.Record.{recordWords, mostDepots, vectorOf, rankOf, rankIn, unwritten}
 use Rattle.order.proofs.BoolLaws.{pick-true, pick-false}
-use Rattle.order.proofs.VectorLaws.{zeros-intro, zeros-same}
+use Rattle.order.proofs.VectorLaws.{zeros-intro, zeros-same, sum-same}
 
 pub rank-right : (r : List ℕ) → length r ≡ recordWords → rankIn r ≡ rankOf r
 unfolding rankIn
@@ -29,5 +29,11 @@ pub zeros-wrong : (n : ℕ) (r : List ℕ) → (length r ≡ recordWords → ⊥
 zeros-wrong n r e = ap (λ (a : Rank). zeros n (a .vector)) (rank-wrong r e) ∙ zeros-unwritten n
 
 -- the vector as the last four words of a record
+entry-part : (n : ℕ) (r : List ℕ) → n ≤ mostDepots → (x : ℕ) → x < n → vectorIn (take 4 (drop 5 r)) x ≡ vectorOf r x
+entry-part n r h x l = getD-take 4 (drop 5 r) x 0 (lt-of-lt-of-le l h) ∙ getD-drop 5 r x 0
+
 pub zeros-part : (n : ℕ) (r : List ℕ) → n ≤ mostDepots → zeros n (vectorIn (take 4 (drop 5 r))) ≡ zeros n (vectorOf r)
-zeros-part n r h = zeros-same n _ _ λ x l. getD-take 4 (drop 5 r) x 0 (lt-of-lt-of-le l h) ∙ getD-drop 5 r x 0
+zeros-part n r h = zeros-same n _ _ (entry-part n r h)
+
+pub sum-part : (n : ℕ) (r : List ℕ) → n ≤ mostDepots → sum n (vectorIn (take 4 (drop 5 r))) ≡ sum n (vectorOf r)
+sum-part n r h = sum-same n _ _ (entry-part n r h)

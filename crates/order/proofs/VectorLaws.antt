@@ -1,7 +1,8 @@
 -- The laws of vectors, each over the number of entries: what the tests say of each entry, and what the entrywise maximum leaves.
 -- Assumes nothing.
 use Prim.Native.Nat.{ℕ, zero, suc, _+_, _≤_, _<_, max}
-use native.Mathlib.Nat.{le-refl, le-of-lt, max-eq-left, max-eq-right}
+use native.Mathlib.Numerals.{add-one}
+use native.Mathlib.Nat.{le-refl, le-step, le-of-lt, max-eq-left, max-eq-right}
 use native.Mathlib.Omega.{arith}
 use mathlib.Core.Path.{_≡_, refl, sym, _∙_, ap, ap₂}
 use mathlib.Core.Logic.{_⊎_, inl, inr, ⊎-elim}
@@ -12,8 +13,8 @@ use lib.ListN.{length, getD, set, length-set}
 use lib.Seq.{getD-set-same, getD-set-other, set-getD}
 use borrow.Author.Tests.{le-leb, leb-true, eq-eqb, eqb-true, ne-eqb}
 use Rattle.order.specs.Loops.{times, every, pick}
-use Rattle.order.specs.Vector.{Vec, covered, zeros, agree, mergeOne, mergedAt}
-use Rattle.order.proofs.BoolLaws.{failed, or-cases, or-left, or-right, eq-or-ne, pick-true, pick-false}
+use Rattle.order.specs.Vector.{Vec, covered, zeros, agree, sum, mergeOne, mergedAt}
+use Rattle.order.proofs.BoolLaws.{failed, or-cases, or-left, or-right, le-or-lt, eq-or-ne, pick-true, pick-false}
 use Rattle.order.proofs.LoopLaws.{times-keeps, every-none, every-more, every-at, every-intro, every-fails, every-same}
 
 -- covered in all entries but one
@@ -86,6 +87,56 @@ agree-at n u v h x l = eqb-true (u x) (v x) (every-at n _ h x l)
 pub agree-intro : (n : ℕ) (u v : Vec) → ((x : ℕ) → x < n → u x ≡ v x) → agree n u v ≡ true
 unfolding agree
 agree-intro n u v h = every-intro n _ λ x l. eq-eqb (u x) (v x) (h x l)
+
+-- the sum, entry after entry
+pub sum-none : (u : Vec) → sum 0 u ≡ 0
+unfolding sum
+sum-none u = refl
+
+pub sum-more : (x : ℕ) (u : Vec) {t : ℕ} → t ≡ sum x u → t + u x ≡ sum (x + 1) u
+unfolding sum
+sum-more x u e = ap (λ (t : ℕ). t + u x) e ∙ rw add-one
+
+-- the sum looks at the n entries alone
+pub sum-same : (n : ℕ) (u v : Vec) → ((x : ℕ) → x < n → u x ≡ v x) → sum n u ≡ sum n v
+unfolding sum
+sum-same zero u v h = refl
+sum-same (suc n) u v h = ap₂ (λ (s t : ℕ). s + t) (sum-same n u v (λ x l. h x (le-step l))) (h n (le-refl _))
+
+-- the sum of an entrywise larger vector is not smaller
+pub sum-le : (n : ℕ) (u v : Vec) → ((x : ℕ) → x < n → u x ≤ v x) → sum n u ≤ sum n v
+unfolding sum
+sum-le zero u v h = le-refl _
+sum-le (suc n) u v h = let rest = sum-le n u v (λ x l. h x (le-step l)) in let last = h n (le-refl _) in omega arith
+
+-- equal sums, with one vector entrywise at most the other, make equal entries
+pub sum-equal : (n : ℕ) (u v : Vec) → ((x : ℕ) → x < n → u x ≤ v x) → sum n u ≡ sum n v → (x : ℕ) → x < n → u x ≡ v x
+unfolding sum
+sum-equal zero u v h e x l = absurd (omega arith)
+sum-equal (suc n) u v h e x l =
+    let rest = sum-le n u v (λ y k. h y (le-step k)) in
+    let last = h n (le-refl _) in
+    ⊎-elim
+    (λ (k : x ≡ n). rw k (omega arith))
+    (λ (k : x ≡ n → ⊥). sum-equal n u v (λ y i. h y (le-step i)) (omega arith) x (omega arith))
+    (eq-or-ne x n)
+
+-- so a difference makes the sum of the entrywise larger one greater
+pub sum-less : (n : ℕ) (u v : Vec) → ((x : ℕ) → x < n → u x ≤ v x) → (x : ℕ) → x < n → u x < v x → sum n u < sum n v
+sum-less n u v h x l more =
+    ⊎-elim
+    (λ (k : sum n v ≤ sum n u). let some = sum-le n u v h in let same = sum-equal n u v h (omega arith) x l in absurd (omega arith))
+    (λ (k : sum n u < sum n v). k)
+    (le-or-lt (sum n v) (sum n u))
+
+-- the sum of nothing but zeros is 0
+sum-nothing : (n : ℕ) → sum n (λ x. 0) ≡ 0
+unfolding sum
+sum-nothing zero = refl
+sum-nothing (suc n) = ap (λ (t : ℕ). t + 0) (sum-nothing n)
+
+pub sum-zeros : (n : ℕ) (u : Vec) → zeros n u ≡ true → sum n u ≡ 0
+sum-zeros n u z = sum-same n u (λ x. 0) (zeros-at n u z) ∙ sum-nothing n
 
 -- one entry's maximum among words, case by case
 pub merge-one-own : (d at x v : ℕ) (l : List ℕ) → x ≡ d → l ≡ mergeOne d at x v l

@@ -1,6 +1,6 @@
 -- Vectors over D depots. A vector is the function from a depot to its entry; a rule that reads one says how many entries count.
 -- Assumes nothing.
-use Prim.Native.Nat.{ℕ, _+_, max}
+use Prim.Native.Nat.{ℕ, zero, suc, _+_, max}
 use mathlib.Core.Bool.{Bool, _||_}
 use mathlib.Core.List.{List}
 use lib.Dec.{leb, eqb}
@@ -29,6 +29,11 @@ zeros n u = every n (λ x. eqb (u x) 0)
 -- u and v agree in the n entries
 unfoldable pub agree : ℕ → Vec → Vec → Bool
 agree n u v = every n (λ x. eqb (u x) (v x))
+
+-- the sum of the n entries
+unfoldable pub sum : ℕ → Vec → ℕ
+sum zero u = 0
+sum (suc i) u = sum i u + u i
 
 -- the entrywise maximum
 unfoldable pub merged : Vec → Vec → Vec

@@ -1,5 +1,6 @@
 // The version record and the order of versions.
 use crate::vector::is_zero;
+use crate::vector::sum_of;
 ghost use mathlib.Core.Path.{_≡_};
 ghost use Prim.Native.Nat.{_≤_, min};
 ghost use lib.ListN.{length};
@@ -20,11 +21,16 @@ pub const RECORD_WORDS: usize = 9;
 
 pub const MOST_DEPOTS: usize = 4;
 
-// Whether the record a is the greater version, with n depots.
+// Whether the record a is the greater version, with n depots: by the sums, then entry by entry from depot 0 on, then by origin.
 pub fn is_above(a: &[u32], b: &[u32], n: usize) -> bool
     requires { ⌜ (length (now a) ≡ recordWords) × (length (now b) ≡ recordWords) × (n ≤ mostDepots) ⌝ }
     ensures { λ r. ⌜ r ≡ above n (rankOf (now (a .entry))) (rankOf (now (b .entry))) ⌝ }
 {
+    let sum = sum_of(&a[VECTOR..RECORD_WORDS], n);
+    let other = sum_of(&b[VECTOR..RECORD_WORDS], n);
+    if sum != other {
+        return other < sum;
+    }
     let mut x = 0;
     while x < n {
         let place = VECTOR + x;

@@ -2,7 +2,8 @@
 ghost use mathlib.Core.Path.{_≡_};
 ghost use Prim.Native.Nat.{_+_, _≤_, _<_};
 ghost use lib.ListN.{length};
-ghost use Rattle.order.specs.Vector.{vectorIn, covered, zeros, mergeOne, mergedAt};
+ghost use Rattle.order.specs.Vector.{vectorIn, covered, zeros, sum, mergeOne, mergedAt};
+ghost use Rattle.order.specs.Record.{mostDepots};
 
 // Whether u is covered by v in all of the n entries but that of depot `own`.
 pub fn is_covered(u: &[u32], v: &[u32], n: usize, own: usize) -> bool
@@ -34,6 +35,20 @@ pub fn is_zero(u: &[u32], n: usize) -> bool
         x += 1;
     }
     true
+}
+
+// The sum of the n entries. It is wider than an entry: four of 32 bits make up to 34.
+pub fn sum_of(u: &[u32], n: usize) -> u64
+    requires { ⌜ (n ≤ length (now u)) × (n ≤ mostDepots) ⌝ }
+    ensures { λ r. ⌜ r ≡ sum n (vectorIn (now (u .entry))) ⌝ }
+{
+    let mut total: u64 = 0;
+    let mut x = 0;
+    while x < n {
+        total += u[x] as u64;
+        x += 1;
+    }
+    total
 }
 
 // The entry of depot x, unless x is `own`, becomes the larger of itself and what is offered.

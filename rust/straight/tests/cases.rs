@@ -164,7 +164,14 @@ fn setup_refusals() {
 fn the_order() {
     let version = |origin: u32, vector: [u32; 4]| [0, 9, 0, 0, origin, vector[0], vector[1], vector[2], vector[3]];
     let above = |a: &[u32], b: &[u32]| straight::above(a, b, 2);
-    assert!(above(&version(0, [1, 0, 0, 0]), &version(1, [0, 5, 0, 0])), "the first difference decides");
+    assert!(above(&version(1, [0, 5, 0, 0]), &version(0, [1, 0, 0, 0])), "the greater sum decides");
+    assert!(!above(&version(0, [1, 0, 0, 0]), &version(1, [0, 5, 0, 0])), "and the lesser is below");
+    assert!(above(&version(0, [u32::MAX, 1, 0, 0]), &version(1, [0, 5, 0, 0])), "a sum of 33 bits counts whole");
+    assert!(!above(&version(1, [0, 5, 0, 0]), &version(0, [u32::MAX, 1, 0, 0])), "on either side");
+    assert!(above(&version(0, [3, 2, 0, 0]), &version(1, [2, 3, 0, 0])), "equal sums: entry by entry from depot 0 on");
+    assert!(!above(&version(1, [2, 3, 0, 0]), &version(0, [3, 2, 0, 0])), "and not from the last");
+    assert!(above(&version(0, [1, 0, 0, 0]), &version(1, [0, 1, 0, 0])), "the two versions of case (f)");
+    assert!(straight::above(&version(0, [1, 2, 0, 3]), &version(1, [1, 1, 4, 0]), 4), "the first difference of equal sums");
     assert!(above(&version(1, [1, 1, 0, 0]), &version(0, [1, 1, 0, 0])), "then the higher origin");
     assert!(!above(&version(1, [1, 1, 0, 0]), &version(1, [1, 1, 9, 9])), "words past the depots count for nothing");
     assert!(!above(&version(1, [0, 0, 7, 7]), &version(0, [0; 4])), "unwritten is above nothing");

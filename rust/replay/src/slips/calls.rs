@@ -250,7 +250,16 @@ impl Slipped {
             Slip::EqualReplaces => a[ORIGIN] >= b[ORIGIN],
             _ => a[ORIGIN] > b[ORIGIN],
         };
-        left > right || (left == right && !unwritten && higher)
+        let sum = |entries: &[u32]| match self.0 {
+            Slip::NoSums => 0,
+            Slip::SumsWrap => entries.iter().fold(0, |sum: u32, &entry| sum.wrapping_add(entry)) as u64,
+            _ => entries.iter().fold(0, |sum, &entry| sum + entry as u64),
+        };
+        if sum(left) != sum(right) {
+            return sum(left) > sum(right);
+        }
+        let ahead = if self.has(Slip::LastDepotFirst) { left.iter().rev().gt(right.iter().rev()) } else { left > right };
+        ahead || (left == right && !unwritten && higher)
     }
 
     fn can_send(&self, book: &[u32], n: Counts, depot: usize, shelf: usize, room: bool) -> Answer<()> {

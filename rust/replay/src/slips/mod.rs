@@ -100,6 +100,12 @@ slips! {
     UntakenShown,
     /// Versions are shown before the stable vector is raised.
     ShowBeforeRaise,
+    /// The sums of the entries are not compared.
+    NoSums,
+    /// The sums of the entries wrap at 32 bits.
+    SumsWrap,
+    /// Of equal sums the entries are compared from the last depot on.
+    LastDepotFirst,
     /// Equal vectors are a draw.
     NoOrigin,
     /// An equal version replaces the stored one.
