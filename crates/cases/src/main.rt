@@ -218,7 +218,11 @@ fn case_k(book: &mut [u32], out: &mut [u8]) -> bool
     let ticked = repeated(book, out, b"K 1 0\n0\n", 4);
     let written = runs(book, out, b"W 1 0 9\n0 5 C\n");
     let taken = repeated(book, out, b"T 0 0 1\n0\n", 5);
-    let shown = runs(book, out, b"F 0 0\n0\nR 0 0\n0 9 0 5\nT 1 0 0\n0\nF 1 0\n0\nR 1 0\n0 9 0 5\n");
+    let shown = runs(
+        book,
+        out,
+        b"F 0 0\n0\nR 0 0\n0 9 0 5\nT 1 0 0\n0\nF 1 0\n0\nR 1 0\n0 9 0 5\n",
+    );
     fresh && ticked && written && taken && shown
 }
 
@@ -226,7 +230,11 @@ fn case_k(book: &mut [u32], out: &mut [u8]) -> bool
 fn case_l(book: &mut [u32], out: &mut [u8]) -> bool
     requires { ⌜ answerRoom ≤ length (now out) ⌝ }
 {
-    let fresh = runs(book, out, b"S 2 1 4 2 0 1\n0\nW 0 0 7\n0 1 C\nT 1 0 0\n0\nF 1 0\n0\nR 1 0\n0 7 1 0\n");
+    let fresh = runs(
+        book,
+        out,
+        b"S 2 1 4 2 0 1\n0\nW 0 0 7\n0 1 C\nT 1 0 0\n0\nF 1 0\n0\nR 1 0\n0 7 1 0\n",
+    );
     let written = runs(book, out, b"W 0 0 8\n0 2 C\nW 1 0 9\n0 1 C\n");
     let taken = runs(book, out, b"T 0 0 1\n0\nF 0 0\n0\nT 1 0 0\n0\nF 1 0\n0\n");
     let read = runs(book, out, b"R 0 0\n0 8 2 0\nR 1 0\n0 8 2 0\n");
