@@ -150,7 +150,7 @@ fn setup_looks_at_no_old_word() {
 fn setup_refusals() {
     let mut book = vec![0; WORDS];
     for (counts, homes) in
-        [([0, 1, 1, 1], 1), ([5, 1, 1, 1], 1), ([1, 5, 1, 1], 1), ([1, 1, 65, 1], 1), ([1, 1, 1, 17], 17), ([1, 1, 1, 1], 2)]
+        [([0, 1, 1, 1], 1), ([5, 1, 1, 1], 1), ([1, 5, 1, 1], 1), ([1, 1, 161, 1], 1), ([1, 1, 1, 17], 17), ([1, 1, 1, 1], 2)]
     {
         let [depots, shelves, bearings, crews] = counts;
         assert_eq!(setup(&mut book, depots, shelves, bearings, crews, &vec![0; homes]), Err(Refusal::BadCounts), "{:?}", counts);
