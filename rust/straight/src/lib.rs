@@ -1,4 +1,5 @@
-//! The depot register, written a second time: plainly, from the specification and `docs/LAYOUT.md` alone.
+//! The depot register, written a second time: plainly, from the specification and `docs/LAYOUT.md` alone
+//! (the calendar, and the order by sums, by hands that had read the proved ones).
 //!
 //! It shares no line with the proved core. Where the two differ, one of them has misread the specification;
 //! `replay` looks for such a difference.
