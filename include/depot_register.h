@@ -78,9 +78,10 @@ uint32_t depot_refresh(uint32_t *book, size_t words, uint32_t depot, uint32_t sh
 /* 1 if the book is fit, else 0. A book of the wrong length is not. */
 uint32_t depot_is_fit(const uint32_t *book, size_t words);
 
-/* Which of two version records is the greater: 1 if it is b, else 0, and a is the one to keep. The greater sum of entries
- * wins, then the first difference from depot 0 on, then the higher origin. A record of another length than 9 words counts
- * as unwritten. `depots` is 1 to 4; for any other number the answer is 0. */
+/* Which of two version records is the greater: 1 if it is b, else 0, and a is the one to keep. The greater sum of
+ * the first `depots` entries wins, then the first difference from depot 0 on, then the higher origin. An unwritten record,
+ * these entries all 0, is never the greater, and one of another length than 9 words counts as unwritten. `depots` is 1 to
+ * 4; for any other number the answer is 0. */
 uint32_t depot_greater(const uint32_t *a, size_t a_words, const uint32_t *b, size_t b_words, uint32_t depots);
 
 /* One line of the desk. `line` is the line without its line feed, any bytes. The answer, with its line feed, goes to the

@@ -26,7 +26,7 @@ pub fn month_start(month: u32) -> u32
     starts[month as usize]
 }
 
-// One entry a month; a line is a year. Each is the one before plus that month's days.
+// One entry a month. Each is the one before plus that month's days.
 const STARTS: [u32; 4800] = [
     0,
     31,

@@ -105,17 +105,17 @@ fn case_e(book: &mut [u32], out: &mut [u8]) -> bool
     listed && written && vector && read
 }
 
-// A round: every shelf ticks, every link is emptied by these takes, every shelf is refreshed.
+// A round: every link is emptied by these takes, every shelf is refreshed, every shelf ticks.
 fn round(book: &mut [u32], out: &mut [u8], takes: &[u8]) -> bool
     requires { ⌜ answerRoom ≤ length (now out) ⌝ }
 {
-    let ticked = runs(book, out, b"K 0 0\n0\nK 0 1\n0\nK 1 0\n0\nK 1 1\n0\n");
     let taken = runs(book, out, takes);
     let shown = runs(book, out, b"F 0 0\n0\nF 0 1\n0\nF 1 0\n0\nF 1 1\n0\n");
-    ticked && taken && shown
+    let ticked = runs(book, out, b"K 0 0\n0\nK 0 1\n0\nK 1 0\n0\nK 1 1\n0\n");
+    taken && shown && ticked
 }
 
-// (f) two writes that know nothing of each other: after two rounds both depots read 7.
+// (f) two writes that know nothing of each other: after one round each depot reads its own still, after two both read 7.
 fn case_f(book: &mut [u32], out: &mut [u8]) -> bool
     requires { ⌜ answerRoom ≤ length (now out) ⌝ }
 {
@@ -127,15 +127,16 @@ fn case_f(book: &mut [u32], out: &mut [u8]) -> bool
     let first = round(
         book,
         out,
-        b"T 0 0 1\n0\nT 0 0 1\n0\nT 0 0 1\n7\nT 0 1 1\n0\nT 0 1 1\n7\nT 1 0 0\n0\nT 1 0 0\n0\nT 1 0 0\n7\nT 1 1 0\n0\nT 1 1 0\n7\n",
+        b"T 0 0 1\n0\nT 0 0 1\n7\nT 0 1 1\n7\nT 1 0 0\n0\nT 1 0 0\n7\nT 1 1 0\n7\n",
     );
+    let hidden = runs(book, out, b"R 0 0\n0 7 1 0\nR 1 0\n0 9 0 1\n");
     let second = round(
         book,
         out,
         b"T 0 0 1\n0\nT 0 0 1\n7\nT 0 1 1\n0\nT 0 1 1\n7\nT 1 0 0\n0\nT 1 0 0\n7\nT 1 1 0\n0\nT 1 1 0\n7\n",
     );
     let read = runs(book, out, b"R 0 0\n0 7 1 0\nR 1 0\n0 7 1 0\n");
-    written && first && second && read
+    written && first && hidden && second && read
 }
 
 // The same script again and again.

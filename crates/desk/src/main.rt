@@ -8,7 +8,7 @@ ghost use mathlib.Core.Path.{_≡_};
 ghost use Prim.Native.Nat.{_*_, _≤_};
 ghost use lib.ListN.{length, take};
 ghost use Rattle.events.specs.Answering.{answerRoom};
-ghost use Rattle.events.specs.Stream.{keptBytes, lineThrough, bookThrough, saysThrough};
+ghost use Rattle.events.specs.Stream.{keptBytes, zeroBook, lineThrough, bookThrough, saysThrough};
 ghost use Rattle.line.specs.Printing.{Wrote};
 
 const BOOK_WORDS: usize = 16384;
@@ -53,9 +53,9 @@ fn answer_piece(
     }
 }
 
-// All that arrives, and then a last line without its line feed. The pieces are counted down from a number that no run uses up.
+// All that arrives, on a book of zeros, and then a last line without its line feed. The pieces are counted down from a number that no run uses up.
 fn serve(book: &mut [u32], line: &mut [u8], input: &mut [u8], out: &mut [u8])
-    requires { ⌜ (length (now line) ≡ keptBytes) × (answerRoom * length (now input) ≤ length (now out)) × (answerRoom ≤ length (now out)) ⌝ }
+    requires { ⌜ (length (now line) ≡ keptBytes) × (answerRoom * length (now input) ≤ length (now out)) × (answerRoom ≤ length (now out)) × (now book ≡ zeroBook) ⌝ }
 {
     let mut pieces = u64::MAX;
     let mut kept = 0;

@@ -28,12 +28,9 @@ fn reads(value: u32, vector: [u32; 4]) -> Result<Reading, Refusal> {
     Ok(Reading { value: Some(value), vector })
 }
 
-/// A tick of every shelf, takes until every link is empty, a refresh of every shelf.
+/// Takes until every link is empty, a refresh of every shelf, a tick of every shelf.
 fn round(book: &mut [u32], depots: u32, shelves: u32) {
     let each = || (0..depots).flat_map(move |depot| (0..shelves).map(move |shelf| (depot, shelf)));
-    for (depot, shelf) in each() {
-        assert_eq!(tick(book, depot, shelf), DONE);
-    }
     for (depot, shelf) in each() {
         for from in (0..depots).filter(|&from| from != depot) {
             while take(book, depot, shelf, from).is_ok() {}
@@ -41,6 +38,9 @@ fn round(book: &mut [u32], depots: u32, shelves: u32) {
     }
     for (depot, shelf) in each() {
         assert_eq!(refresh(book, depot, shelf), DONE);
+    }
+    for (depot, shelf) in each() {
+        assert_eq!(tick(book, depot, shelf), DONE);
     }
 }
 
