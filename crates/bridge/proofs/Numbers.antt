@@ -13,6 +13,7 @@ use Rattle.order.specs.Loops.{pick}
 use Rattle.order.proofs.BoolLaws.{pick-true, pick-false}
 use Rattle.book.specs.Layout.{home, crewVector, clock}
 use Rattle.fit.specs.Fit.{fit}
+use Rattle.fit.proofs.NamedLaws.{fit-tick, fit-take, fit-refresh, fit-read, fit-write}
 use Rattle.upkeep.proofs.NeverBadAnswer.{refusal-number}
 use Rattle.register.specs.Answers.{numberOf, refusalOf, answerOf, readRefused, writeRefused}
 use Rattle.register.specs.Table as table
@@ -33,16 +34,16 @@ fit-passes {b = false} e = absurd (false≢true e)
 module _ (l : List ℕ) (F : fit l ≡ true) where
   pub read-number : (c k : ℕ) → table.readNumber l c k ≡ calls.refusal (countsIn l) (view l) (calls.read c k)
   unfolding table.readNumber table.first calls.refusal calls.first
-  read-number c k = pick-false _ _ (fit-passes F)
+  read-number c k = pick-false _ _ (fit-passes (fit-read l F c k))
 
   pub refresh-number : (d s : ℕ) → table.refreshNumber l d s ≡ calls.refusal (countsIn l) (view l) (calls.refresh d s)
   unfolding table.refreshNumber table.first calls.refusal calls.first
-  refresh-number d s = pick-false _ _ (fit-passes F)
+  refresh-number d s = pick-false _ _ (fit-passes (fit-refresh l F d s))
 
   pub tick-number : (d s : ℕ) → table.tickNumber l d s ≡ calls.refusal (countsIn l) (view l) (calls.tick d s)
   unfolding table.tickNumber table.first calls.refusal calls.first view end shelfAt
   tick-number d s =
-      pick-false _ _ (fit-passes F)
+      pick-false _ _ (fit-passes (fit-tick l F d s))
       ∙ pick-else (leb (countsIn l .depots) d) 2 λ kd. pick-else (leb (countsIn l .shelves) s) 3 λ ks.
       let d< = leb-false _ d kd in
       let s< = leb-false _ s ks in
@@ -53,7 +54,7 @@ module _ (l : List ℕ) (F : fit l ≡ true) where
   pub take-number : (d s from : ℕ) → table.takeNumber l d s from ≡ calls.refusal (countsIn l) (view l) (calls.take d s from)
   unfolding table.takeNumber table.first calls.refusal calls.first view
   take-number d s from =
-      pick-false _ _ (fit-passes F)
+      pick-false _ _ (fit-passes (fit-take l F d s from))
       ∙ pick-else (leb (countsIn l .depots) d || leb (countsIn l .depots) from) 2 λ kd. pick-else (leb (countsIn l .shelves) s) 3 λ ks. pick-else (eqb d from) 6 λ apart.
       let both = or-none _ _ kd in
       let d< = leb-false _ d (both .0) in
@@ -83,7 +84,7 @@ module _ (l : List ℕ) (F : fit l ≡ true) where
   pub write-number : (c k value : ℕ) → table.writeNumber l c k ≡ calls.refusal (countsIn l) (view l) (calls.write c k value)
   unfolding table.writeNumber table.first calls.refusal calls.first calls.shelfOf view end
   write-number c k value =
-      pick-false _ _ (fit-passes F)
+      pick-false _ _ (fit-passes (fit-write l F c k))
       ∙ pick-else (leb (countsIn l .crews) c) 5 λ kc. pick-else (leb (countsIn l .bearings) k) 4 λ kk.
       let c< = leb-false _ c kc in
       let S = sound l F in

@@ -103,7 +103,7 @@ module _ (l : List ℕ) (F : fit l ≡ true) (c k : ℕ) where
         ∙ ap (λ (d : ℕ). told (countsIn l .depots) (settled (countsIn l .depots) d (view l .crew c) (view l .shelf d (k % countsIn l .shelves)) .store k)) (sym at-home)
 
   does : readNumber l c k ≡ 0 → Does l (read c k) (readBook l c k)
-  does z = record { leaves = leaves (read-done l c k z); counts = counted (read-done l c k z); fits = read-fit l c k z }
+  does z = record { leaves = leaves (read-done l c k z); counts = counted (read-done l c k z); fits = read-fit l c k F z }
 
   pub read-bridge : (a : ReadAnswer) (l′ : List ℕ) → Read l c k a l′ → Bridged l (read c k) (paperRead (countsIn l .depots) a) l′
   read-bridge a l′ t =

@@ -52,7 +52,7 @@ module _ (l : List ℕ) (F : fit l ≡ true) (d s : ℕ) where
       record {
         leaves = view-by l (refreshBook l d s) same ∙ settled-view π l S d s (o .depot) (o .shelf) u (lowestSeen π d (view l)) (λ x k. lowest-here π l d x (o .depot) k);
         counts = same;
-        fits = refresh-fit l d s z;
+        fits = refresh-fit l d s F z;
       }
 
   pub refresh-bridge : (r : register.Answer) (l′ : List ℕ) → Refresh l d s r l′ → Bridged l (refresh d s) (paper r) l′

@@ -39,7 +39,7 @@ module _ (l : List ℕ) (F : fit l ≡ true) (d s from : ℕ) where
             ∙ took-view (countsIn l) l S d s from (o .depot) (o .shelf) sender (o .more)
             ∙ ap (λ (h : Shelf). setShelf d s (taking from (h .untaken from) h) (view l)) (sym (shelf-here (countsIn l) l d s (o .depot) (o .shelf)));
         counts = same;
-        fits = take-fit l d s from z;
+        fits = take-fit l d s from F z;
       }
 
   pub take-bridge : (r : register.Answer) (l′ : List ℕ) → Take l d s from r l′ → Bridged l (take d s from) (paper r) l′

@@ -43,7 +43,7 @@ module _ (l : List ℕ) (F : fit l ≡ true) (d s : ℕ) where
             ∙ sent-view (countsIn l) l S d s stamp (beat stamp) refl (o .depot) (o .shelf) room (add-one _)
             ∙ ap (λ (t : ℕ). send (countsIn l) d s (heartbeat t) (view l)) (add-one _ ∙ ap (λ (h : Shelf). suc (h .clock)) (sym (shelf-here (countsIn l) l d s (o .depot) (o .shelf))));
         counts = same;
-        fits = tick-fit l d s z;
+        fits = tick-fit l d s F z;
       }
 
   pub tick-bridge : (r : register.Answer) (l′ : List ℕ) → Tick l d s r l′ → Bridged l (tick d s) (paper r) l′

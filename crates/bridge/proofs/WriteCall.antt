@@ -224,7 +224,7 @@ module _ (l : List ℕ) (F : fit l ≡ true) (c k value : ℕ) where
         at-home (home-clock l F c k (o .crew)))
 
   does : writeNumber l c k ≡ 0 → Does l (write c k value) (writeBook l c k value)
-  does z = record { leaves = leaves z; counts = counted z; fits = write-fit l c k value z }
+  does z = record { leaves = leaves z; counts = counted z; fits = write-fit l c k value F z }
 
   pub write-bridge : (a : WriteAnswer) (l′ : List ℕ) → promises.Write l c k value a l′ → Bridged l (write c k value) (paperWrite a) l′
   write-bridge a l′ t =

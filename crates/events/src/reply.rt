@@ -26,7 +26,7 @@ ghost use Prim.Native.Nat.{_+_, _≤_};
 ghost use lib.ListN.{length, take};
 ghost use Rattle.order.specs.Record.{mostDepots};
 ghost use Rattle.book.specs.Layout.{countsOf};
-ghost use Rattle.fit.specs.Fit.{fit};
+ghost use Rattle.fit.specs.Named.{baseFit};
 ghost use Rattle.line.specs.Grammar.{least};
 ghost use Rattle.line.specs.Answers.{numberAnswer};
 ghost use Rattle.line.specs.Printing.{Wrote};
@@ -42,9 +42,9 @@ const BAD_LINE: u32 = 13;
 // The room that every answer has, its line feed counted.
 pub const ANSWER_ROOM: usize = 64;
 
-// The depots of a fit book; of any other book, some number up to four.
+// The depots of a book with its length, counts in range and homes; of any other book, some number up to four.
 fn depots_in(book: &[u32]) -> usize
-    ensures { λ r. ⌜ (r ≤ mostDepots) × (fit (now (book .entry)) ≡ true → r ≡ countsOf (now (book .entry)) .depots) ⌝ }
+    ensures { λ r. ⌜ (r ≤ mostDepots) × (baseFit (now (book .entry)) ≡ true → r ≡ countsOf (now (book .entry)) .depots) ⌝ }
 {
     if book.len() != BOOK_WORDS {
         return 0;

@@ -14,8 +14,8 @@ use Rattle.order.proofs.BoolLaws.{and-stop}
 use Rattle.book.specs.Words.{part}
 use Rattle.book.specs.Layout.{bookWords}
 use Rattle.book.proofs.WordsLaws.{part-at}
-use Rattle.fit.specs.Fit.{fit, between, inRange, othersInRange, countsFit, homeFit, crewFit, shelfFit, versionFit}
-use Rattle.fit.specs.Fit.{linkFit, keptFit, storedFit, homesFit, crewsFit, shelvesFit, linksFit, storesFit, partsFit}
+use Rattle.fit.specs.Fit.{fit, between, inRange, othersInRange, countsFit, homeFit, crewFit, clockFit, stableFit, seenFit, shelfFit, versionFit}
+use Rattle.fit.specs.Fit.{headFit, messagesFit, linkFit, keptFit, storedFit, homesFit, crewsFit, shelvesFit, linksFit, storesFit, partsFit}
 use Rattle.fit.specs.Fit.{carriedFit, copyFit, beatFit, messageFit}
 
 -- a list of any other length is not fit
@@ -25,7 +25,7 @@ fit-length l h = and-stop _ (ne-eqb _ _ h)
 
 -- the book of document 01's setup line, `S 2 2 4 2 0 1`
 pub listing-fit : fit (2 ∷ 2 ∷ 4 ∷ 2 ∷ 0 ∷ 1 ∷ replicate 16378 0) ≡ true
-unfolding fit between inRange othersInRange countsFit homeFit crewFit shelfFit versionFit linkFit keptFit storedFit homesFit crewsFit shelvesFit linksFit storesFit partsFit every covered zeros part
+unfolding fit between inRange othersInRange countsFit homeFit crewFit clockFit stableFit seenFit shelfFit versionFit headFit messagesFit linkFit keptFit storedFit homesFit crewsFit shelvesFit linksFit storesFit partsFit every covered zeros part
 listing-fit = refl
 
 -- two depots with one shelf, bearing and crew each: depot 0 has written 20 with the vector (1, 0) and then ticked, and depot 1 has taken the
@@ -36,13 +36,13 @@ busy =
     ++ (1 ∷ 0 ∷ 20 ∷ 0 ∷ 0 ∷ 0 ∷ 1 ∷ 0 ∷ 0 ∷ 0 ∷ []) ++ (2 ∷ 2 ∷ replicate 10068 0) ++ (0 ∷ 20 ∷ 0 ∷ 0 ∷ 0 ∷ 1 ∷ 0 ∷ 0 ∷ 0 ∷ replicate 5779 0)
 
 pub busy-fit : fit busy ≡ true
-unfolding busy fit between inRange othersInRange countsFit homeFit crewFit shelfFit versionFit carriedFit copyFit beatFit
-    messageFit linkFit keptFit storedFit homesFit crewsFit shelvesFit linksFit storesFit partsFit every covered zeros part
+unfolding busy fit between inRange othersInRange countsFit homeFit crewFit clockFit stableFit seenFit shelfFit versionFit carriedFit copyFit beatFit
+    messageFit headFit messagesFit linkFit keptFit storedFit homesFit crewsFit shelvesFit linksFit storesFit partsFit every covered zeros part
 busy-fit = refl
 
 -- a register of one depot, shelf, bearing and crew, with nothing written: nine words count, and every other may hold anything
 pub nine-words :
     (l : List ℕ) → length l ≡ bookWords → getD l 0 0 ≡ 1 → getD l 1 0 ≡ 1 → getD l 2 0 ≡ 1 → getD l 3 0 ≡ 1 →
     getD l 4 0 ≡ 0 → getD l 20 0 ≡ 0 → getD l 84 0 ≡ 0 → getD l 100 0 ≡ 0 → getD l 10601 0 ≡ 0 → fit l ≡ true
-unfolding fit between inRange othersInRange countsFit homeFit crewFit shelfFit versionFit linkFit keptFit storedFit homesFit crewsFit shelvesFit linksFit storesFit partsFit every covered zeros
+unfolding fit between inRange othersInRange countsFit homeFit crewFit clockFit stableFit seenFit shelfFit versionFit headFit messagesFit linkFit keptFit storedFit homesFit crewsFit shelvesFit linksFit storesFit partsFit every covered zeros
 nine-words l full d p k c home entry clock own stored = rw (full, d, p, k, c, home, entry, clock, own, part-at l 10596 9 5 (lit≤ tt), stored)

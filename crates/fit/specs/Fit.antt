@@ -47,10 +47,21 @@ homeFit n l c = ltb (home l c) (n .depots)
 unfoldable pub crewFit : Counts → List ℕ → ℕ → Bool
 crewFit n l c = inRange (n .depots) (crewVector l c)
 
--- shelf s of depot d: its clock, stable vector and stamps seen are in range, and the own stable entry is 0
+-- shelf s of depot d: its clock is in range
+unfoldable pub clockFit : List ℕ → ℕ → ℕ → Bool
+clockFit l d s = leb (clock l d s) end
+
+-- its stable vector is in range, and the own entry is 0
+unfoldable pub stableFit : Counts → List ℕ → ℕ → ℕ → Bool
+stableFit n l d s = eqb (stable l d s d) 0 && othersInRange (n .depots) d (stable l d s)
+
+-- the stamps it has seen are in range
+unfoldable pub seenFit : Counts → List ℕ → ℕ → ℕ → Bool
+seenFit n l d s = othersInRange (n .depots) d (seen l d s)
+
+-- all three
 unfoldable pub shelfFit : Counts → List ℕ → ℕ → ℕ → Bool
-shelfFit n l d s =
-    leb (clock l d s) end && (eqb (stable l d s d) 0 && (othersInRange (n .depots) d (stable l d s) && othersInRange (n .depots) d (seen l d s)))
+shelfFit n l d s = clockFit l d s && (stableFit n l d s && seenFit n l d s)
 
 -- a version: its vector is in range, its origin is a depot, and its stamp, which is its origin's entry, is above 0
 unfoldable pub versionFit : Counts → List ℕ → Bool
@@ -72,12 +83,18 @@ beatFit m = eqb (kindOf m) beatKind && leb (beatOf m) end
 unfoldable pub messageFit : Counts → ℕ → ℕ → List ℕ → Bool
 messageFit n s from m = beatFit m || copyFit n s from m
 
--- link q of shelf s out of a depot: it holds no more than there is room for; the taken messages stand first and are copies
+-- the head of link q: it holds no more than there is room for, and no more are taken than held
+unfoldable pub headFit : List ℕ → ℕ → Bool
+headFit l q = leb (held l q) linkRoom && leb (taken l q) (held l q)
+
+-- the messages of link q of shelf s out of a depot: the taken ones stand first and are copies
+unfoldable pub messagesFit : Counts → List ℕ → ℕ → ℕ → ℕ → Bool
+messagesFit n l s from q =
+    every (taken l q) (λ i. copyFit n s from (slot l q i)) && every (held l q - taken l q) (λ i. messageFit n s from (slot l q (taken l q + i)))
+
+-- link q of shelf s out of a depot
 unfoldable pub linkFit : Counts → List ℕ → ℕ → ℕ → ℕ → Bool
-linkFit n l s from q =
-    leb (held l q) linkRoom
-    && (leb (taken l q) (held l q)
-    && (every (taken l q) (λ i. copyFit n s from (slot l q i)) && every (held l q - taken l q) (λ i. messageFit n s from (slot l q (taken l q + i)))))
+linkFit n l s from q = headFit l q && messagesFit n l s from q
 
 -- a record stored for bearing k: unwritten, or a version of that very bearing
 unfoldable pub keptFit : Counts → ℕ → List ℕ → Bool

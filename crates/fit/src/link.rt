@@ -19,7 +19,7 @@ ghost use lib.ListN.{length};
 ghost use Rattle.order.specs.Loops.{every};
 ghost use Rattle.order.specs.Record.{mostDepots};
 ghost use Rattle.book.specs.Layout.{bookWords, slotWords, linkRoom, links, slot};
-ghost use Rattle.fit.specs.Fit.{copyFit, messageFit, linkFit};
+ghost use Rattle.fit.specs.Fit.{copyFit, messageFit, headFit, linkFit};
 
 // Whether a message is a copy that the link of a shelf out of a depot may carry.
 fn copy_fits(message: &[u32], n: Counts, s: Shelf, from: Depot) -> bool
@@ -87,6 +87,18 @@ fn messages_fit(
         i += 1;
     }
     true
+}
+
+// Whether the head of a link is fit.
+pub fn head_fits(book: &[u32], q: Link) -> bool
+    requires { ⌜ (length (now book) ≡ bookWords) × (q .0 < links) ⌝ }
+    ensures { λ r. ⌜ r ≡ headFit (now (book .entry)) (q .0) ⌝ }
+{
+    let messages = held_of(book, q);
+    if LINK_ROOM < messages {
+        return false;
+    }
+    taken_of(book, q) <= messages
 }
 
 // Whether the link of a shelf out of a depot is fit.

@@ -18,7 +18,7 @@ ghost use lib.ListN.{length};
 ghost use Rattle.order.specs.Record.{mostDepots};
 ghost use Rattle.order.specs.Vector.{vectorIn};
 ghost use Rattle.book.specs.Layout.{bookWords, mostShelves, mostCrews};
-ghost use Rattle.fit.specs.Fit.{between, countsFit, homeFit, othersInRange, crewFit, shelfFit};
+ghost use Rattle.fit.specs.Fit.{between, countsFit, homeFit, othersInRange, crewFit, clockFit, stableFit, seenFit, shelfFit};
 
 // How many bearings a register may have, and the other limits.
 pub const MOST_BEARINGS: usize = 160;
@@ -80,24 +80,48 @@ pub fn crew_fits(book: &[u32], n: Counts, c: Crew) -> bool
     others_in_range(&book[at..end], n.depots, n.depots)
 }
 
-// Whether a shelf of a depot is fit.
-pub fn shelf_fits(book: &[u32], n: Counts, d: Depot, s: Shelf) -> bool
-    requires { ⌜ (length (now book) ≡ bookWords) × (n .depots ≤ mostDepots) × (d .0 < mostDepots) × (s .0 < mostShelves) ⌝ }
-    ensures { λ r. ⌜ r ≡ shelfFit n (now (book .entry)) (d .0) (s .0) ⌝ }
+// Whether the clock of a shelf is in range.
+pub fn clock_fits(book: &[u32], d: Depot, s: Shelf) -> bool
+    requires { ⌜ (length (now book) ≡ bookWords) × (d .0 < mostDepots) × (s .0 < mostShelves) ⌝ }
+    ensures { λ r. ⌜ r ≡ clockFit (now (book .entry)) (d .0) (s .0) ⌝ }
 {
-    if END < book[clock_at(d, s)] {
-        return false;
-    }
+    book[clock_at(d, s)] <= END
+}
+
+// Whether the stable vector of a shelf is in range, and its own entry 0.
+pub fn stable_fits(book: &[u32], n: Counts, d: Depot, s: Shelf) -> bool
+    requires { ⌜ (length (now book) ≡ bookWords) × (n .depots ≤ mostDepots) × (d .0 < mostDepots) × (s .0 < mostShelves) ⌝ }
+    ensures { λ r. ⌜ r ≡ stableFit n (now (book .entry)) (d .0) (s .0) ⌝ }
+{
     let own = d.index();
     let at = stable_at(d, s);
     if book[at + own] != 0 {
         return false;
     }
     let end = at + MOST_DEPOTS;
-    if !others_in_range(&book[at..end], n.depots, own) {
-        return false;
-    }
+    others_in_range(&book[at..end], n.depots, own)
+}
+
+// Whether the stamps that a shelf has seen are in range.
+pub fn seen_fits(book: &[u32], n: Counts, d: Depot, s: Shelf) -> bool
+    requires { ⌜ (length (now book) ≡ bookWords) × (n .depots ≤ mostDepots) × (d .0 < mostDepots) × (s .0 < mostShelves) ⌝ }
+    ensures { λ r. ⌜ r ≡ seenFit n (now (book .entry)) (d .0) (s .0) ⌝ }
+{
     let at = seen_at(d, s);
     let end = at + MOST_DEPOTS;
-    others_in_range(&book[at..end], n.depots, own)
+    others_in_range(&book[at..end], n.depots, d.index())
+}
+
+// Whether a shelf of a depot is fit.
+pub fn shelf_fits(book: &[u32], n: Counts, d: Depot, s: Shelf) -> bool
+    requires { ⌜ (length (now book) ≡ bookWords) × (n .depots ≤ mostDepots) × (d .0 < mostDepots) × (s .0 < mostShelves) ⌝ }
+    ensures { λ r. ⌜ r ≡ shelfFit n (now (book .entry)) (d .0) (s .0) ⌝ }
+{
+    if !clock_fits(book, d, s) {
+        return false;
+    }
+    if !stable_fits(book, n, d, s) {
+        return false;
+    }
+    seen_fits(book, n, d, s)
 }

@@ -24,7 +24,7 @@ ghost use Rattle.book.specs.Layout.{bookWords, mostShelves, linkOf};
 ghost use Rattle.fit.specs.Fit.{Within, shelfFit, linkFit, storedFit, homesFit, crewsFit, shelvesFit, linksFit, storesFit, partsFit, fit};
 
 // Whether the home of every crew is a depot.
-fn homes_fit(book: &[u32], n: Counts) -> bool
+pub fn homes_fit(book: &[u32], n: Counts) -> bool
     requires { ⌜ (length (now book) ≡ bookWords) × Within n ⌝ }
     ensures { λ r. ⌜ r ≡ homesFit n (now (book .entry)) ⌝ }
 {

@@ -16,11 +16,13 @@ use Rattle.book.specs.declared.numbers.Bearing.{Bearing}
 use Rattle.book.specs.declared.numbers.Crew.{Crew}
 use Rattle.register.specs.declared.answer.Refusal.{Refusal}
 use Rattle.register.specs.declared.answer.Answer.{Answer}
+use Rattle.register.specs.declared.answer.Finding.{Finding}
+use Rattle.register.specs.declared.answer.ReadAnswer.{ReadAnswer}
 use Rattle.register.specs.declared.answer.WriteAnswer.{WriteAnswer}
 use Rattle.register.specs.declared.check.PlaceCheck.{PlaceCheck}
 use Rattle.register.specs.declared.check.AskCheck.{AskCheck}
 use Rattle.register.specs.declared.check.LinkCheck.{LinkCheck}
-use Rattle.register.specs.Answers.{refusalOf, answerOf, writeRefused}
+use Rattle.register.specs.Answers.{refusalOf, answerOf, readRefused, writeRefused}
 use Rattle.register.specs.Table.{first}
 use Rattle.register.specs.Checks.{placeOfNumber, askedOf, linkOfNumber}
 use Rattle.register.specs.Promises.{after}
@@ -56,18 +58,15 @@ pub refused-write :
 unfolding writeRefused
 refused-write n m done e h q = ap WriteAnswer.Refused (sym (ap refusalOf e ∙ q)) ∙ sym (pick-false _ _ (ap (λ (x : ℕ). eqb x 0) e ∙ h))
 
+pub refused-read :
+    (n m : ℕ) {r : Refusal} (done : ReadAnswer) → n ≡ m → eqb m 0 ≡ false → refusalOf m ≡ r →
+    record { finding = Finding.Refused r; vector = 0 ∷ 0 ∷ 0 ∷ 0 ∷ [] } ≡ pick (eqb n 0) done (readRefused n)
+unfolding readRefused
+refused-read n m done e h q =
+    (λ z. record { finding = Finding.Refused (sym (ap refusalOf e ∙ q) z); vector = 0 ∷ 0 ∷ 0 ∷ 0 ∷ [] }) ∙ sym (pick-false _ _ (ap (λ (x : ℕ). eqb x 0) e ∙ h))
+
 pub refused-book : (n m : ℕ) (changed l : List ℕ) → n ≡ m → eqb m 0 ≡ false → l ≡ after n changed l
 refused-book n m changed l e h = after-refused n changed l (ap (λ (x : ℕ). eqb x 0) e ∙ h)
-
--- a refusal by the first checks is the refusal of the whole table
-pub first-keeps : (a b : List (Bool × ℕ)) → eqb (first a) 0 ≡ false → first (a ++ b) ≡ first a
-unfolding first
-first-keeps [] b h = absurd (mathlib.Core.Bool.true≢false h)
-first-keeps (t ∷ a) b h =
-    ⊎-elim
-    (λ (e : t .0 ≡ true). pick-true _ _ e ∙ sym (pick-true _ _ e))
-    (λ (e : t .0 ≡ false). pick-false _ _ e ∙ first-keeps a b (ap (λ (n : ℕ). eqb n 0) (sym (pick-false (t .1) (first a) e)) ∙ h) ∙ sym (pick-false _ _ e))
-    (decided (t .0))
 
 -- ---- what the shared checks tell
 

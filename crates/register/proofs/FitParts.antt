@@ -15,7 +15,7 @@ use Rattle.order.proofs.LoopLaws.{every-at, every-intro}
 use Rattle.order.proofs.VectorLaws.{covered-at, covered-intro}
 use Rattle.book.specs.declared.parts.Counts.{Counts}
 use Rattle.book.specs.Layout.{end, countsOf, home, crewVector, clock, stable, seen, linkOf, held, taken, slot, stored}
-use Rattle.fit.specs.Fit.{countsFit, homeFit, inRange, othersInRange, crewFit, shelfFit, copyFit, messageFit, linkFit, keptFit, storedFit, Within}
+use Rattle.fit.specs.Fit.{countsFit, homeFit, inRange, othersInRange, crewFit, clockFit, stableFit, seenFit, shelfFit, copyFit, messageFit, headFit, messagesFit, linkFit, keptFit, storedFit, Within}
 use Rattle.fit.specs.Fit.{homesFit, crewsFit, shelvesFit, linksFit, storesFit, partsFit, fit}
 use Rattle.fit.proofs.FitLaws.{fit-open, counts-within}
 use Rattle.shelf.proofs.AllLaws.{AllOf, all-slots, all-slots-at}
@@ -50,43 +50,42 @@ pub record Parts (n : Counts) (l : List ℕ) : Type 0 where
 -- ---- one part
 
 shelf-open : (n : Counts) (l : List ℕ) (d s : ℕ) → shelfFit n l d s ≡ true → ShelfOk n l d s
-unfolding shelfFit othersInRange
+unfolding shelfFit clockFit stableFit seenFit othersInRange
 shelf-open n l d s h =
-    let h1 = and-right (leb (clock l d s) end) _ h in
-    let h2 = and-right (eqb (stable l d s d) 0) _ h1 in
+    let h1 = and-right (clockFit l d s) _ h in
+    let h2 = and-left (stableFit n l d s) _ h1 in
     record {
       clocked = leb-true _ _ (and-left (leb (clock l d s) end) _ h);
-      own = eqb-true _ _ (and-left (eqb (stable l d s d) 0) _ h1);
-      stables = covered-at (n .depots) d _ _ (and-left _ _ h2);
-      seens = covered-at (n .depots) d _ _ (and-right (othersInRange (n .depots) d (stable l d s)) _ h2);
+      own = eqb-true _ _ (and-left (eqb (stable l d s d) 0) _ h2);
+      stables = covered-at (n .depots) d _ _ (and-right (eqb (stable l d s d) 0) _ h2);
+      seens = covered-at (n .depots) d _ _ (and-right (stableFit n l d s) _ h1);
     }
 
 shelf-close : (n : Counts) (l : List ℕ) (d s : ℕ) → ShelfOk n l d s → shelfFit n l d s ≡ true
-unfolding shelfFit othersInRange
+unfolding shelfFit clockFit stableFit seenFit othersInRange
 shelf-close n l d s h =
     and-intro (le-leb _ _ (h .clocked))
-    (and-intro (eq-eqb _ _ (h .own)) (and-intro (covered-intro (n .depots) d _ _ (h .stables)) (covered-intro (n .depots) d _ _ (h .seens))))
+    (and-intro (and-intro (eq-eqb _ _ (h .own)) (covered-intro (n .depots) d _ _ (h .stables))) (covered-intro (n .depots) d _ _ (h .seens)))
 
-link-open : (n : Counts) (l : List ℕ) (s from q : ℕ) → linkFit n l s from q ≡ true → LinkOk n l s from q
-unfolding linkFit takenSlots untakenSlots
+pub link-open : (n : Counts) (l : List ℕ) (s from q : ℕ) → linkFit n l s from q ≡ true → LinkOk n l s from q
+unfolding linkFit headFit messagesFit takenSlots untakenSlots
 link-open n l s from q h =
-    let h1 = and-right (leb (held l q) 16) _ h in
-    let h2 = and-right (leb (taken l q) (held l q)) _ h1 in
+    let h1 = and-left (headFit l q) _ h in
+    let h2 = and-right (headFit l q) _ h in
     record {
-      room = leb-true _ _ (and-left (leb (held l q) 16) _ h);
-      first = leb-true _ _ (and-left (leb (taken l q) (held l q)) _ h1);
+      room = leb-true _ _ (and-left (leb (held l q) 16) _ h1);
+      first = leb-true _ _ (and-right (leb (held l q) 16) _ h1);
       copies = all-slots (IsCopy n s from) l q 0 (taken l q) (λ i k. subst (λ (j : ℕ). IsCopy n s from (slot l q j)) (sym (zero-add i)) (every-at (taken l q) _ (and-left _ _ h2) i k));
       messages = all-slots (IsMessage n s from) l q (taken l q) (held l q - taken l q) (every-at (held l q - taken l q) _ (and-right (every (taken l q) (λ i. copyFit n s from (slot l q i))) _ h2));
     }
 
 link-close : (n : Counts) (l : List ℕ) (s from q : ℕ) → LinkOk n l s from q → linkFit n l s from q ≡ true
-unfolding linkFit takenSlots untakenSlots
+unfolding linkFit headFit messagesFit takenSlots untakenSlots
 link-close n l s from q h =
-    and-intro (le-leb _ _ (h .room))
-    (and-intro (le-leb _ _ (h .first))
+    and-intro (and-intro (le-leb _ _ (h .room)) (le-leb _ _ (h .first)))
     (and-intro
     (every-intro (taken l q) _ (λ i k. subst (λ (j : ℕ). IsCopy n s from (slot l q j)) (zero-add i) (all-slots-at (IsCopy n s from) l q 0 (taken l q) (h .copies) i k)))
-    (every-intro (held l q - taken l q) _ (all-slots-at (IsMessage n s from) l q (taken l q) (held l q - taken l q) (h .messages)))))
+    (every-intro (held l q - taken l q) _ (all-slots-at (IsMessage n s from) l q (taken l q) (held l q - taken l q) (h .messages))))
 
 -- ---- all the parts
 

@@ -9,11 +9,14 @@ use mathlib.Core.List.{List}
 use mathlib.Core.Bool.{true}
 use lib.Dec.{eqb, ltb}
 use lib.Seq.{getD-set-other}
-use borrow.Author.Tests.{eqb-true, ltb-true}
-use Rattle.order.proofs.BoolLaws.{or-cases}
+use borrow.Author.Tests.{eqb-true, ltb-true, ne-eqb}
+use Rattle.order.proofs.BoolLaws.{and-left, and-right, or-cases, or-next}
 use Rattle.order.proofs.LoopLaws.{every-at}
 use Rattle.book.specs.declared.parts.Counts.{Counts}
 use Rattle.book.specs.Layout.{crewAt, heldAt, countsOf, home, crewVector, linkOf, held, taken, slot}
+use Rattle.fit.specs.Fit.{Within, crewFit, stableFit, linkFit, storedFit}
+use Rattle.fit.specs.Named.{arrivalFit, showFit, homeParts, readParts, writeParts}
+use Rattle.fit.proofs.NamedLaws.{Based, base-open, write-based, write-named}
 use Rattle.shelf.specs.Asks.{Sound, Ready, Free}
 use Rattle.shelf.specs.Show.{keptIn}
 use Rattle.shelf.specs.Send.{roomy}
@@ -24,7 +27,7 @@ use Rattle.shelf.proofs.ShowFrame.{settled-off}
 use Rattle.register.specs.Table.{shelfOf}
 use Rattle.register.specs.Calls.{settledHome, newStamp, madeRecord, writtenCrew}
 use Rattle.register.proofs.Numbers.{WriteDone}
-use Rattle.register.proofs.FitParts.{IsCopy, LinkOk, Whole, whole-open}
+use Rattle.register.proofs.FitParts.{IsCopy, LinkOk, Whole, link-open}
 use Rattle.register.proofs.FitMessage.{copy-open}
 
 -- a fit link is sound
@@ -51,12 +54,29 @@ whole-ready n l W d s hd hs =
       links = λ from k f. link-sound n l s from (linkOf s from d) (W .within .bearings) (W .parts .links s from d hs k hd f);
     }
 
+-- the same, of the parts that raise and show touches
+pub show-ready : (n : Counts) (l : List ℕ) → Within n → (d s : ℕ) → d < n .depots → s < n .shelves → showFit n l d s ≡ true → Ready (n .depots) d s l
+unfolding showFit arrivalFit
+show-ready n l W d s hd hs h =
+    let a = W .depots in
+    let b = W .shelves in
+    record {
+      depots = a;
+      depot = omega arith;
+      shelf = omega arith;
+      links = λ from k f.
+          link-sound n l s from (linkOf s from d) (W .bearings)
+          (link-open n l s from (linkOf s from d)
+          (and-left (linkFit n l s from (linkOf s from d)) _
+          (sym (or-next (arrivalFit n l d s from) (ne-eqb from d f)) ∙ every-at (n .depots) _ (and-right (stableFit n l d s) _ h) from k)));
+    }
+
 -- room on every link out
-pub roomy-free : (n : Counts) (l : List ℕ) → Whole n l → (d s : ℕ) → d < n .depots → s < n .shelves → roomy (n .depots) d s l ≡ true → Free (n .depots) d s l
+pub roomy-free : (n : Counts) (l : List ℕ) → Within n → (d s : ℕ) → d < n .depots → s < n .shelves → roomy (n .depots) d s l ≡ true → Free (n .depots) d s l
 unfolding roomy
 roomy-free n l W d s hd hs h =
-    let a = W .within .depots in
-    let b = W .within .shelves in
+    let a = W .depots in
+    let b = W .shelves in
     record {
       depots = a;
       depot = omega arith;
@@ -67,20 +87,33 @@ roomy-free n l W d s hd hs h =
     }
 
 -- the shelf of a bearing
-pub shelf-in : (n : Counts) (l : List ℕ) → Whole n l → (k : ℕ) → k % n .shelves < n .shelves
-shelf-in n l W k = mod-lt k (W .within .shelf)
+pub shelf-in : (n : Counts) → Within n → (k : ℕ) → k % n .shelves < n .shelves
+shelf-in n W k = mod-lt k (W .shelf)
 
 -- ---- a write
 
+-- a crew's home shelf, of the parts that a read names
+pub read-ready : (l : List ℕ) (c k : ℕ) → Based l → c < countsOf l .crews → readParts (countsOf l) l c k ≡ true → Ready (countsOf l .depots) (home l c) (shelfOf l k) l
+unfolding readParts homeParts
+read-ready l c k B hc h =
+    show-ready (countsOf l) l (B .within) (home l c) (shelfOf l k) (B .homes c hc) (shelf-in (countsOf l) (B .within) k)
+    (and-right (storedFit (countsOf l) l (home l c) k) _ (and-right (crewFit (countsOf l) l c) _ h))
+
 module _ (l : List ℕ) (c k value : ℕ) (t : WriteDone l c k) where
-  W : Whole (countsOf l) l
-  W = whole-open l (t .fits)
+  pub based : Based l
+  based = base-open l (write-based l c k (t .fits))
 
   hc : home l c < countsOf l .depots
-  hc = W .parts .homes c (t .crew)
+  hc = based .homes c (t .crew)
 
   hs : shelfOf l k < countsOf l .shelves
-  hs = shelf-in (countsOf l) l W k
+  hs = shelf-in (countsOf l) (based .within) k
+
+  pub ready : Ready (countsOf l .depots) (home l c) (shelfOf l k) l
+  unfolding writeParts
+  ready =
+      read-ready l c k based (t .crew)
+      (and-left (readParts (countsOf l) l c k) _ (sym (write-named l c k (write-based l c k (t .fits)) (t .crew) (t .bearing)) ∙ t .fits))
 
   -- a link out counts what it counted: showing only frees incoming links
   pub out-stays :
@@ -88,18 +121,18 @@ module _ (l : List ℕ) (c k value : ℕ) (t : WriteDone l c k) where
       held (keptIn (countsOf l .depots) (home l c) (madeRecord l c k value) (writtenCrew l c k)) (linkOf (shelfOf l k) (home l c) to) ≡ held l (linkOf (shelfOf l k) (home l c) to)
   unfolding writtenCrew settledHome
   out-stays to z f =
-      let a = W .within .depots in
-      let b = W .within .shelves in
-      let e = W .within .crews in
+      let a = based .within .depots in
+      let b = based .within .shelves in
+      let e = based .within .crews in
       let g = t .crew in
       let x = hc in
       let y = hs in
       kept-in-low (countsOf l .depots) (home l c) (madeRecord l c k value) (writtenCrew l c k) (heldAt (linkOf (shelfOf l k) (home l c) to)) (omega arith)
       ∙ getD-set-other (settledHome l c k) (crewAt c + home l c) (heldAt (linkOf (shelfOf l k) (home l c) to)) (newStamp l c k) 0 (omega arith)
-      ∙ settled-off (countsOf l .depots) (home l c) (shelfOf l k) (crewVector l c) l (whole-ready (countsOf l) l W (home l c) (shelfOf l k) hc hs)
+      ∙ settled-off (countsOf l .depots) (home l c) (shelfOf l k) (crewVector l c) l ready
       (heldAt (linkOf (shelfOf l k) (home l c) to)) (omega arith) (λ from i j. (omega arith, omega arith)) (omega arith)
 
   pub free : Free (countsOf l .depots) (home l c) (shelfOf l k) (keptIn (countsOf l .depots) (home l c) (madeRecord l c k value) (writtenCrew l c k))
   free =
-      let old = roomy-free (countsOf l) l W (home l c) (shelfOf l k) hc hs (t .room) in
+      let old = roomy-free (countsOf l) l (based .within) (home l c) (shelfOf l k) hc hs (t .room) in
       record { depots = old .depots; depot = old .depot; shelf = old .shelf; room = λ to z f. subst (λ (x : ℕ). x < 16) (sym (out-stays to z f)) (old .room to z f) }

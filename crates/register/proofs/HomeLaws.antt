@@ -6,7 +6,7 @@ use native.Mathlib.Omega.{arith}
 use mathlib.Core.Path.{_≡_, refl, sym, _∙_, ap, ap₂, subst, subst₂}
 use mathlib.Core.Logic.{⊎-elim}
 use mathlib.Core.List.{List, [], _∷_}
-use mathlib.Core.Bool.{true, false}
+use mathlib.Core.Bool.{Bool, true, false, _&&_}
 use lib.Dec.{ltb}
 use lib.ListN.{getD, take, drop}
 use lib.Seq.{getD-take, getD-drop}
@@ -25,8 +25,9 @@ use Rattle.shelf.specs.Send.{fourOf}
 use Rattle.register.specs.declared.answer.ReadAnswer.{ReadAnswer}
 use Rattle.register.specs.Answers.{cut, tells}
 use Rattle.register.specs.Calls.{settledHome, readRecord, readBook}
-use Rattle.register.proofs.FitParts.{Whole}
-use Rattle.register.proofs.FitReady.{whole-ready, shelf-in}
+use Rattle.fit.specs.Named.{tickParts, homeParts, readParts, writeParts}
+use Rattle.fit.proofs.NamedLaws.{Based}
+use Rattle.register.proofs.FitReady.{read-ready}
 use Rattle.register.proofs.MadeLaws.{cut-at}
 
 pub merged-same : (n d at : ℕ) (u v : Vec) (l : List ℕ) → ((x : ℕ) → x < n → u x ≡ v x) → mergedAt n d u at l ≡ mergedAt n d v at l
@@ -57,11 +58,22 @@ module _ (l : List ℕ) (c k : ℕ) {n : Counts} {d s : ℕ} (en : n ≡ countsO
       ∙ ap₂ (λ (x y : ℕ). settled (n .depots) x y (crewVector l c) l) ed es
       ∙ ap (λ (m : Counts). settled (m .depots) (home l c) (k % m .shelves) (crewVector l c) l) en
 
-  pub home-ready : Whole (countsOf l) l → c < countsOf l .crews → Ready (n .depots) d s l
-  home-ready W hc =
+  pub home-ready : Based l → c < countsOf l .crews → readParts (countsOf l) l c k ≡ true → Ready (n .depots) d s l
+  home-ready B hc h =
       subst₂ (λ (x y : ℕ). Ready (n .depots) x y l) (sym ed) (sym es)
-      (subst (λ (m : Counts). Ready (m .depots) (home l c) (k % m .shelves) l) (sym en)
-      (whole-ready (countsOf l) l W (home l c) (k % countsOf l .shelves) (W .parts .homes c hc) (shelf-in (countsOf l) l W k)))
+      (subst (λ (m : Counts). Ready (m .depots) (home l c) (k % m .shelves) l) (sym en) (read-ready l c k B hc h))
+
+  -- what is said of the parts by the numbers worked out is said of them by the crew and the bearing
+  pub parts-home : homeParts n l c k d s ≡ readParts (countsOf l) l c k
+  unfolding readParts
+  parts-home =
+      ap₂ (λ (x y : ℕ). homeParts n l c k x y) ed es ∙ ap (λ (m : Counts). homeParts m l c k (home l c) (k % m .shelves)) en
+
+  pub parts-write : homeParts n l c k d s && tickParts n l d s ≡ writeParts (countsOf l) l c k
+  unfolding writeParts
+  parts-write =
+      ap₂ (λ (a b : Bool). a && b) parts-home
+      (ap₂ (λ (x y : ℕ). tickParts n l x y) ed es ∙ ap (λ (m : Counts). tickParts m l (home l c) (k % m .shelves)) en)
 
 -- ---- what a read tells, and the crew's maximum with it
 

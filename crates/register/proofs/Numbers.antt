@@ -13,9 +13,11 @@ use Rattle.order.proofs.BoolLaws.{both-ways}
 use Rattle.order.proofs.LoopLaws.{every-at}
 use Rattle.book.specs.declared.parts.Counts.{Counts}
 use Rattle.book.specs.Layout.{end, bookWords, countsOf, home, crewVector, clock, linkOf, held, taken}
-use Rattle.fit.specs.Fit.{countsFit, fit}
+use Rattle.fit.specs.Fit.{countsFit}
+use Rattle.fit.specs.Named.{baseFit, tickFit, takeFit, refreshFit, readFit, writeFit}
 use Rattle.shelf.specs.Send.{roomy}
 use Rattle.register.specs.Table.{first, shelfOf, setupNumber, readNumber, writeNumber, tickNumber, takeNumber, refreshNumber}
+use Rattle.register.specs.Checks.{placeNumber, askedNumber}
 
 -- the first check was passed, and so were the rest
 pub first-passed : (t : Bool) (k : ℕ) (rest : List (Bool × ℕ)) → (k ≡ 0 → ⊥) → first ((t, k) ∷ rest) ≡ 0 → (t ≡ false) × (first rest ≡ 0)
@@ -28,8 +30,25 @@ pub or-none : (a b : Bool) → a || b ≡ false → (a ≡ false) × (b ≡ fals
 or-none true b h = absurd (both-ways refl h)
 or-none false b h = (refl, h)
 
+-- the shared checks were passed
+pub place-done : (l : List ℕ) (d s : ℕ) → placeNumber l d s ≡ 0 → (baseFit l ≡ true) × (d < countsOf l .depots) × (s < countsOf l .shelves)
+unfolding placeNumber
+place-done l d s h =
+    let a = first-passed (not (baseFit l)) 1 _ (omega arith) h in
+    let b = first-passed (leb (countsOf l .depots) d) 2 _ (omega arith) (a .1) in
+    let c = first-passed (leb (countsOf l .shelves) s) 3 _ (omega arith) (b .1) in
+    (not-false _ (a .0), leb-false _ _ (b .0), leb-false _ _ (c .0))
+
+pub asked-done : (l : List ℕ) (c k : ℕ) → askedNumber l c k ≡ 0 → (baseFit l ≡ true) × (c < countsOf l .crews) × (k < countsOf l .bearings)
+unfolding askedNumber
+asked-done l c k h =
+    let a = first-passed (not (baseFit l)) 1 _ (omega arith) h in
+    let b = first-passed (leb (countsOf l .crews) c) 5 _ (omega arith) (a .1) in
+    let e = first-passed (leb (countsOf l .bearings) k) 4 _ (omega arith) (b .1) in
+    (not-false _ (a .0), leb-false _ _ (b .0), leb-false _ _ (e .0))
+
 pub record TickDone (l : List ℕ) (d s : ℕ) : Type 0 where
-  pub fits : fit l ≡ true
+  pub fits : tickFit l d s ≡ true
   pub depot : d < countsOf l .depots
   pub shelf : s < countsOf l .shelves
   pub clocked : clock l d s < end
@@ -38,7 +57,7 @@ pub record TickDone (l : List ℕ) (d s : ℕ) : Type 0 where
 pub tick-done : (l : List ℕ) (d s : ℕ) → tickNumber l d s ≡ 0 → TickDone l d s
 unfolding tickNumber
 tick-done l d s h =
-    let a = first-passed (not (fit l)) 1 _ (omega arith) h in
+    let a = first-passed (not (tickFit l d s)) 1 _ (omega arith) h in
     let b = first-passed (leb (countsOf l .depots) d) 2 _ (omega arith) (a .1) in
     let c = first-passed (leb (countsOf l .shelves) s) 3 _ (omega arith) (b .1) in
     let e = first-passed (leb end (clock l d s)) 10 _ (omega arith) (c .1) in
@@ -46,7 +65,7 @@ tick-done l d s h =
     record { fits = not-false _ (a .0); depot = leb-false _ _ (b .0); shelf = leb-false _ _ (c .0); clocked = leb-false _ _ (e .0); room = not-false _ (f .0) }
 
 pub record TakeDone (l : List ℕ) (d s from : ℕ) : Type 0 where
-  pub fits : fit l ≡ true
+  pub fits : takeFit l d s from ≡ true
   pub depot : d < countsOf l .depots
   pub sender : from < countsOf l .depots
   pub shelf : s < countsOf l .shelves
@@ -56,7 +75,7 @@ pub record TakeDone (l : List ℕ) (d s from : ℕ) : Type 0 where
 pub take-done : (l : List ℕ) (d s from : ℕ) → takeNumber l d s from ≡ 0 → TakeDone l d s from
 unfolding takeNumber
 take-done l d s from h =
-    let a = first-passed (not (fit l)) 1 _ (omega arith) h in
+    let a = first-passed (not (takeFit l d s from)) 1 _ (omega arith) h in
     let b = first-passed (leb (countsOf l .depots) d || leb (countsOf l .depots) from) 2 _ (omega arith) (a .1) in
     let c = first-passed (leb (countsOf l .shelves) s) 3 _ (omega arith) (b .1) in
     let e = first-passed (eqb d from) 6 _ (omega arith) (c .1) in
@@ -72,33 +91,33 @@ take-done l d s from h =
     }
 
 pub record RefreshDone (l : List ℕ) (d s : ℕ) : Type 0 where
-  pub fits : fit l ≡ true
+  pub fits : refreshFit l d s ≡ true
   pub depot : d < countsOf l .depots
   pub shelf : s < countsOf l .shelves
 
 pub refresh-done : (l : List ℕ) (d s : ℕ) → refreshNumber l d s ≡ 0 → RefreshDone l d s
 unfolding refreshNumber
 refresh-done l d s h =
-    let a = first-passed (not (fit l)) 1 _ (omega arith) h in
+    let a = first-passed (not (refreshFit l d s)) 1 _ (omega arith) h in
     let b = first-passed (leb (countsOf l .depots) d) 2 _ (omega arith) (a .1) in
     let c = first-passed (leb (countsOf l .shelves) s) 3 _ (omega arith) (b .1) in
     record { fits = not-false _ (a .0); depot = leb-false _ _ (b .0); shelf = leb-false _ _ (c .0) }
 
 pub record ReadDone (l : List ℕ) (c k : ℕ) : Type 0 where
-  pub fits : fit l ≡ true
+  pub fits : readFit l c k ≡ true
   pub crew : c < countsOf l .crews
   pub bearing : k < countsOf l .bearings
 
 pub read-done : (l : List ℕ) (c k : ℕ) → readNumber l c k ≡ 0 → ReadDone l c k
 unfolding readNumber
 read-done l c k h =
-    let a = first-passed (not (fit l)) 1 _ (omega arith) h in
+    let a = first-passed (not (readFit l c k)) 1 _ (omega arith) h in
     let b = first-passed (leb (countsOf l .crews) c) 5 _ (omega arith) (a .1) in
     let e = first-passed (leb (countsOf l .bearings) k) 4 _ (omega arith) (b .1) in
     record { fits = not-false _ (a .0); crew = leb-false _ _ (b .0); bearing = leb-false _ _ (e .0) }
 
 pub record WriteDone (l : List ℕ) (c k : ℕ) : Type 0 where
-  pub fits : fit l ≡ true
+  pub fits : writeFit l c k ≡ true
   pub crew : c < countsOf l .crews
   pub bearing : k < countsOf l .bearings
   pub waited : crewVector l c (home l c) ≤ clock l (home l c) (shelfOf l k)
@@ -108,7 +127,7 @@ pub record WriteDone (l : List ℕ) (c k : ℕ) : Type 0 where
 pub write-done : (l : List ℕ) (c k : ℕ) → writeNumber l c k ≡ 0 → WriteDone l c k
 unfolding writeNumber
 write-done l c k h =
-    let a = first-passed (not (fit l)) 1 _ (omega arith) h in
+    let a = first-passed (not (writeFit l c k)) 1 _ (omega arith) h in
     let b = first-passed (leb (countsOf l .crews) c) 5 _ (omega arith) (a .1) in
     let e = first-passed (leb (countsOf l .bearings) k) 4 _ (omega arith) (b .1) in
     let f = first-passed (ltb (clock l (home l c) (shelfOf l k)) (crewVector l c (home l c))) 8 _ (omega arith) (e .1) in

@@ -27,8 +27,8 @@ use Rattle.register.specs.Checks.{MayWrite}
 use Rattle.register.specs.Table.{shelfOf}
 use Rattle.register.specs.Calls.{settledHome, newStamp, withEntry, madeVector, madeRecord, writtenCrew, isCurrent, writeBook}
 use Rattle.register.proofs.Numbers.{WriteDone, write-done}
-use Rattle.register.proofs.FitParts.{Whole, whole-open}
-use Rattle.register.proofs.FitReady.{whole-ready, shelf-in, free}
+use Rattle.fit.proofs.NamedLaws.{Based}
+use Rattle.register.proofs.FitReady.{based, ready, free}
 use Rattle.register.proofs.HomeLaws.{cut-same, four-at}
 
 -- ---- the version
@@ -101,13 +101,11 @@ module _ (l : List ℕ) (c k value : ℕ) {n d s stamp : ℕ} (M : MayWrite l c 
   pub may-done : WriteDone l c k
   may-done = write-done l c k (M .passed)
 
-  pub may-whole : Whole (countsOf l) l
-  may-whole = whole-open l (may-done .fits)
+  pub may-based : Based l
+  may-based = based l c k value may-done
 
   pub may-ready : Ready n d s l
-  may-ready =
-      subst₃ (λ (x y z : ℕ). Ready x y z l) (sym (M .depots)) (sym (M .depot)) (sym (M .shelf))
-      (whole-ready (countsOf l) l may-whole (home l c) (shelfOf l k) (may-whole .parts .homes c (may-done .crew)) (shelf-in (countsOf l) l may-whole k))
+  may-ready = subst₃ (λ (x y z : ℕ). Ready x y z l) (sym (M .depots)) (sym (M .depot)) (sym (M .shelf)) (ready l c k value may-done)
 
   pub may-free :
       {m₂ : List ℕ} → m₂ ≡ keptIn (countsOf l .depots) (home l c) (madeRecord l c k value) (writtenCrew l c k) → Free n d s m₂

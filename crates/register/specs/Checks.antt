@@ -10,22 +10,38 @@ use Rattle.register.specs.declared.check.PlaceCheck.{PlaceCheck}
 use Rattle.register.specs.declared.check.AskCheck.{AskCheck}
 use Rattle.register.specs.declared.check.LinkCheck.{LinkCheck}
 use Rattle.book.specs.Layout.{countsOf, home, clock}
-use Rattle.fit.specs.Fit.{fit}
+use Rattle.fit.specs.Named.{baseFit}
 use Rattle.register.specs.Table.{first, shelfOf, writeNumber}
 use Rattle.register.specs.Answers.{refusalOf}
+
+-- the length, the counts and the homes, then a depot and a shelf: all of a tick's and a refresh's table that no further part has a say in
+unfoldable pub placeNumber : List ℕ → ℕ → ℕ → ℕ
+placeNumber l d s = first
+    ((not (baseFit l), 1)
+    ∷ (leb (countsOf l .depots) d, 2)
+    ∷ (leb (countsOf l .shelves) s, 3)
+    ∷ [])
 
 -- a depot and a shelf, where the number is 0
 unfoldable pub placeOfNumber : ℕ → ℕ → ℕ → PlaceCheck
 placeOfNumber number d s = pick (eqb number 0) (PlaceCheck.Good (record { 0 = d }) (record { 0 = s })) (PlaceCheck.Bad (refusalOf number))
 
+-- the same, with a crew and a bearing, of a read's and a write's table
+unfoldable pub askedNumber : List ℕ → ℕ → ℕ → ℕ
+askedNumber l c k = first
+    ((not (baseFit l), 1)
+    ∷ (leb (countsOf l .crews) c, 5)
+    ∷ (leb (countsOf l .bearings) k, 4)
+    ∷ [])
+
 -- a crew and a bearing, where the number is 0
 unfoldable pub askedOf : ℕ → ℕ → ℕ → AskCheck
 askedOf number c k = pick (eqb number 0) (AskCheck.Good (record { 0 = c }) (record { 0 = k })) (AskCheck.Bad (refusalOf number))
 
--- the checks of a depot, a shelf and the depot that a message comes from: the first three of a take
+-- the same, with a depot, a shelf and the depot that a message comes from, of a take's table
 unfoldable pub linkNumber : List ℕ → ℕ → ℕ → ℕ → ℕ
 linkNumber l d s from = first
-    ((not (fit l), 1)
+    ((not (baseFit l), 1)
     ∷ (leb (countsOf l .depots) d || leb (countsOf l .depots) from, 2)
     ∷ (leb (countsOf l .shelves) s, 3)
     ∷ [])

@@ -9,7 +9,8 @@ use lib.ListN.{length, getD}
 use Rattle.order.specs.Loops.{every, pick}
 use Rattle.book.specs.declared.parts.Counts.{Counts}
 use Rattle.book.specs.Layout.{end, bookWords, countsOf, home, crewVector, clock, linkOf, held, taken}
-use Rattle.fit.specs.Fit.{countsFit, fit}
+use Rattle.fit.specs.Fit.{countsFit}
+use Rattle.fit.specs.Named.{tickFit, takeFit, refreshFit, readFit, writeFit}
 use Rattle.shelf.specs.Send.{roomy}
 
 -- the number of the first test that holds, 0 where none does
@@ -32,7 +33,7 @@ setupNumber l n homes = first
 -- read, by crew c of bearing k
 unfoldable pub readNumber : List ℕ → ℕ → ℕ → ℕ
 readNumber l c k = first
-    ((not (fit l), 1)
+    ((not (readFit l c k), 1)
     ∷ (leb (countsOf l .crews) c, 5)
     ∷ (leb (countsOf l .bearings) k, 4)
     ∷ [])
@@ -40,7 +41,7 @@ readNumber l c k = first
 -- write, by crew c of bearing k
 unfoldable pub writeNumber : List ℕ → ℕ → ℕ → ℕ
 writeNumber l c k = first
-    ((not (fit l), 1)
+    ((not (writeFit l c k), 1)
     ∷ (leb (countsOf l .crews) c, 5)
     ∷ (leb (countsOf l .bearings) k, 4)
     ∷ (ltb (clock l (home l c) (shelfOf l k)) (crewVector l c (home l c)), 8)
@@ -51,7 +52,7 @@ writeNumber l c k = first
 -- tick, of shelf s of depot d
 unfoldable pub tickNumber : List ℕ → ℕ → ℕ → ℕ
 tickNumber l d s = first
-    ((not (fit l), 1)
+    ((not (tickFit l d s), 1)
     ∷ (leb (countsOf l .depots) d, 2)
     ∷ (leb (countsOf l .shelves) s, 3)
     ∷ (leb end (clock l d s), 10)
@@ -61,7 +62,7 @@ tickNumber l d s = first
 -- take, at depot d, shelf s, from a depot
 unfoldable pub takeNumber : List ℕ → ℕ → ℕ → ℕ → ℕ
 takeNumber l d s from = first
-    ((not (fit l), 1)
+    ((not (takeFit l d s from), 1)
     ∷ (leb (countsOf l .depots) d || leb (countsOf l .depots) from, 2)
     ∷ (leb (countsOf l .shelves) s, 3)
     ∷ (eqb d from, 6)
@@ -71,7 +72,7 @@ takeNumber l d s from = first
 -- refresh, of shelf s of depot d
 unfoldable pub refreshNumber : List ℕ → ℕ → ℕ → ℕ
 refreshNumber l d s = first
-    ((not (fit l), 1)
+    ((not (refreshFit l d s), 1)
     ∷ (leb (countsOf l .depots) d, 2)
     ∷ (leb (countsOf l .shelves) s, 3)
     ∷ [])

@@ -1,4 +1,4 @@
-// The checks that calls share, in the order of document 01's table. A number that passed has its own type from here on.
+// The checks that calls share, in the order of document 01's table: the book's length, its counts and homes, then the numbers. A number that passed has its own type from here on.
 use crate::answer::Refusal;
 use book::numbers::Bearing;
 use book::numbers::BearingCheck;
@@ -9,10 +9,9 @@ use book::numbers::DepotCheck;
 use book::numbers::Shelf;
 use book::numbers::ShelfCheck;
 use book::parts::counts_of;
-use fit::whole::is_fit;
+use fit::named::base_fits;
 ghost use mathlib.Core.Path.{_≡_};
-ghost use Rattle.register.specs.Table.{readNumber, refreshNumber};
-ghost use Rattle.register.specs.Checks.{placeOfNumber, askedOf, linkNumber, linkOfNumber};
+ghost use Rattle.register.specs.Checks.{placeNumber, placeOfNumber, askedNumber, askedOf, linkNumber, linkOfNumber};
 
 // A depot and a shelf that a call names.
 pub enum PlaceCheck {
@@ -34,9 +33,9 @@ pub enum LinkCheck {
 
 // BAD BOOK, BAD DEPOT, BAD SHELF.
 pub fn check_place(book: &[u32], depot: u32, shelf: u32) -> PlaceCheck
-    ensures { λ r. ⌜ r ≡ placeOfNumber (refreshNumber (now (book .entry)) depot shelf) depot shelf ⌝ }
+    ensures { λ r. ⌜ r ≡ placeOfNumber (placeNumber (now (book .entry)) depot shelf) depot shelf ⌝ }
 {
-    if !is_fit(book) {
+    if !base_fits(book) {
         return PlaceCheck::Bad(Refusal::BadBook);
     }
     let n = counts_of(book);
@@ -51,9 +50,9 @@ pub fn check_place(book: &[u32], depot: u32, shelf: u32) -> PlaceCheck
 
 // BAD BOOK, BAD CREW, BAD KEY.
 pub fn check_asked(book: &[u32], crew: u32, bearing: u32) -> AskCheck
-    ensures { λ r. ⌜ r ≡ askedOf (readNumber (now (book .entry)) crew bearing) crew bearing ⌝ }
+    ensures { λ r. ⌜ r ≡ askedOf (askedNumber (now (book .entry)) crew bearing) crew bearing ⌝ }
 {
-    if !is_fit(book) {
+    if !base_fits(book) {
         return AskCheck::Bad(Refusal::BadBook);
     }
     let n = counts_of(book);
@@ -70,7 +69,7 @@ pub fn check_asked(book: &[u32], crew: u32, bearing: u32) -> AskCheck
 pub fn check_link(book: &[u32], depot: u32, shelf: u32, from: u32) -> LinkCheck
     ensures { λ r. ⌜ r ≡ linkOfNumber (linkNumber (now (book .entry)) depot shelf from) depot shelf from ⌝ }
 {
-    if !is_fit(book) {
+    if !base_fits(book) {
         return LinkCheck::Bad(Refusal::BadBook);
     }
     let n = counts_of(book);

@@ -68,15 +68,15 @@ made-message l c k value hk ok =
 
 -- ---- the book
 
-module _ (l : List ℕ) (c k value : ℕ) (t : WriteDone l c k) where
+module _ (l : List ℕ) (c k value : ℕ) (F : fit l ≡ true) (t : WriteDone l c k) where
   W : Whole (countsOf l) l
-  W = whole-open l (t .fits)
+  W = whole-open l F
 
   hc : home l c < countsOf l .depots
   hc = W .parts .homes c (t .crew)
 
   hs : shelfOf l k < countsOf l .shelves
-  hs = shelf-in (countsOf l) l W k
+  hs = shelf-in (countsOf l) (W .within) k
 
   written : Whole (countsOf l) (writtenCrew l c k)
   written =
@@ -99,5 +99,5 @@ module _ (l : List ℕ) (c k value : ℕ) (t : WriteDone l c k) where
       (sent-whole (countsOf l) _ storing (home l c) (shelfOf l k) (newStamp l c k) (copyKind ∷ madeRecord l c k value) hc hs (omega arith) (ap suc (length-made l c k value))
       (made-message l c k value (t .bearing) version) (free l c k value t))
 
-pub write-fit : (l : List ℕ) (c k value : ℕ) → writeNumber l c k ≡ 0 → fit (writeBook l c k value) ≡ true
-write-fit l c k value h = written-book l c k value (write-done l c k h)
+pub write-fit : (l : List ℕ) (c k value : ℕ) → fit l ≡ true → writeNumber l c k ≡ 0 → fit (writeBook l c k value) ≡ true
+write-fit l c k value F h = written-book l c k value F (write-done l c k h)

@@ -10,3 +10,4 @@ pub mod History
 pub mod NeverBadBook
 pub mod NeverBadAnswer
 pub mod Unique
+pub mod LocalTick

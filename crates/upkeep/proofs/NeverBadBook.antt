@@ -13,6 +13,7 @@ use Rattle.book.specs.declared.parts.Counts.{Counts}
 use Rattle.book.specs.Layout.{bookWords}
 use Rattle.fit.specs.Fit.{fit}
 use Rattle.fit.proofs.FitLaws.{fit-open}
+use Rattle.fit.proofs.NamedLaws.{fit-tick, fit-take, fit-refresh, fit-read, fit-write}
 use Rattle.shelf.proofs.FrameLaws.{pick-cases}
 use Rattle.register.specs.Table.{first, setupNumber, readNumber, writeNumber, tickNumber, takeNumber, refreshNumber}
 use Rattle.register.specs.Calls.{setUp}
@@ -24,18 +25,18 @@ use Rattle.upkeep.proofs.FitSetup.{setup-fit}
 
 -- ---- fitness is kept
 
-pub done-fit : (call : Call) (l : List ℕ) → numberAt call l ≡ 0 → fit (changedAt call l) ≡ true
+pub done-fit : (call : Call) (l : List ℕ) → fit l ≡ true → numberAt call l ≡ 0 → fit (changedAt call l) ≡ true
 unfolding numberAt changedAt
-done-fit (setup n homes) l h = setup-fit l n homes h
-done-fit (read c k) l h = read-fit l c k h
-done-fit (write c k value) l h = write-fit l c k value h
-done-fit (tick d s) l h = tick-fit l d s h
-done-fit (take d s from) l h = take-fit l d s from h
-done-fit (refresh d s) l h = refresh-fit l d s h
+done-fit (setup n homes) l F h = setup-fit l n homes h
+done-fit (read c k) l F h = read-fit l c k F h
+done-fit (write c k value) l F h = write-fit l c k value F h
+done-fit (tick d s) l F h = tick-fit l d s F h
+done-fit (take d s from) l F h = take-fit l d s from F h
+done-fit (refresh d s) l F h = refresh-fit l d s F h
 
 pub call-fit : (call : Call) (l : List ℕ) → fit l ≡ true → fit (bookAfter call l) ≡ true
 unfolding bookAfter after
-call-fit call l h = pick-cases (λ (m : List ℕ). fit m ≡ true) (eqb (numberAt call l) 0) _ l (λ e. done-fit call l (eqb-true (numberAt call l) 0 e)) λ e. h
+call-fit call l h = pick-cases (λ (m : List ℕ). fit m ≡ true) (eqb (numberAt call l) 0) _ l (λ e. done-fit call l h (eqb-true (numberAt call l) 0 e)) λ e. h
 
 pub calls-fit : (calls : List Call) (l : List ℕ) → fit l ≡ true → fit (bookAfterAll calls l) ≡ true
 unfolding bookAfterAll
@@ -63,18 +64,18 @@ pub fit-number : (call : Call) (l : List ℕ) → fit l ≡ true → numberAt ca
 unfolding numberAt setupNumber readNumber writeNumber tickNumber takeNumber refreshNumber
 fit-number (setup n homes) l h =
     first-other _ _ (ap not (eq-eqb (length l) bookWords (fit-open l h .full))) (later-other _ 11 _ (omega arith) (later-other _ 2 _ (omega arith) none-other))
-fit-number (read c k) l h = first-other _ _ (ap not h) (later-other _ 5 _ (omega arith) (later-other _ 4 _ (omega arith) none-other))
+fit-number (read c k) l h = first-other _ _ (ap not (fit-read l h c k)) (later-other _ 5 _ (omega arith) (later-other _ 4 _ (omega arith) none-other))
 fit-number (write c k value) l h =
-    first-other _ _ (ap not h)
+    first-other _ _ (ap not (fit-write l h c k))
     (later-other _ 5 _ (omega arith)
     (later-other _ 4 _ (omega arith) (later-other _ 8 _ (omega arith) (later-other _ 10 _ (omega arith) (later-other _ 9 _ (omega arith) none-other)))))
 fit-number (tick d s) l h =
-    first-other _ _ (ap not h)
+    first-other _ _ (ap not (fit-tick l h d s))
     (later-other _ 2 _ (omega arith) (later-other _ 3 _ (omega arith) (later-other _ 10 _ (omega arith) (later-other _ 9 _ (omega arith) none-other))))
 fit-number (take d s from) l h =
-    first-other _ _ (ap not h)
+    first-other _ _ (ap not (fit-take l h d s from))
     (later-other _ 2 _ (omega arith) (later-other _ 3 _ (omega arith) (later-other _ 6 _ (omega arith) (later-other _ 7 _ (omega arith) none-other))))
-fit-number (refresh d s) l h = first-other _ _ (ap not h) (later-other _ 2 _ (omega arith) (later-other _ 3 _ (omega arith) none-other))
+fit-number (refresh d s) l h = first-other _ _ (ap not (fit-refresh l h d s)) (later-other _ 2 _ (omega arith) (later-other _ 3 _ (omega arith) none-other))
 
 -- after a setup that was done and any calls, done or refused, later setups among them, no call is answered with BAD BOOK
 pub never-bad-book :

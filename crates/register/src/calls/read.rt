@@ -2,6 +2,7 @@
 // becomes the entrywise maximum with it.
 use crate::answer::Finding;
 use crate::answer::ReadAnswer;
+use crate::answer::Refusal;
 use crate::calls::home::cut_vector;
 use crate::calls::home::home_depot;
 use crate::calls::home::settle_home;
@@ -13,6 +14,7 @@ use book::layout::stored_at;
 use book::numbers::Bearing;
 use book::numbers::Crew;
 use book::parts::counts_of;
+use fit::named::read_parts_fit;
 use order::record::RECORD_WORDS;
 use order::record::VALUE;
 use order::record::VECTOR;
@@ -20,11 +22,13 @@ use order::vector::is_zero;
 use order::vector::merge;
 ghost use mathlib.Core.Path.{_≡_};
 ghost use mathlib.Core.Bool.{true};
+ghost use mathlib.Core.List.{[], _∷_};
 ghost use Prim.Native.Nat.{_<_, _≤_};
 ghost use lib.ListN.{length};
 ghost use Rattle.order.specs.Record.{mostDepots, recordWords};
 ghost use Rattle.book.specs.Layout.{countsOf};
-ghost use Rattle.fit.specs.Fit.{fit};
+ghost use Rattle.fit.specs.Named.{baseFit};
+ghost use Rattle.register.specs.declared.answer.Finding.{Finding};
 ghost use Rattle.register.specs.Answers.{tells};
 ghost use Rattle.register.specs.Promises.{Read};
 
@@ -46,14 +50,28 @@ fn tell(version: &[u32], n: usize) -> ReadAnswer
     }
 }
 
+// A refusal carries nothing but its number.
+fn refused(r: Refusal) -> ReadAnswer
+    ensures { λ a. ⌜ a ≡ record { finding = Finding.Refused r; vector = 0 ∷ 0 ∷ 0 ∷ 0 ∷ [] } ⌝ }
+{
+    ReadAnswer {
+        finding: Finding::Refused(r),
+        vector: [0, 0, 0, 0],
+    }
+}
+
 fn read_at(book: &mut [u32], c: Crew, k: Bearing) -> ReadAnswer
-    requires { ⌜ (fit (now book) ≡ true) × (c .0 < countsOf (now book) .crews) × (k .0 < countsOf (now book) .bearings) ⌝ }
+    requires { ⌜ (baseFit (now book) ≡ true) × (c .0 < countsOf (now book) .crews) × (k .0 < countsOf (now book) .bearings) ⌝ }
     ensures { λ r. ⌜ Read (now (book .entry)) (c .0) (k .0) r (now (book .exit)) ⌝ }
 {
     let n = counts_of(book);
     let depots = n.depots;
     let d = home_depot(book, n, c);
-    settle_home(book, depots, c, d, shelf_for(k, n));
+    let s = shelf_for(k, n);
+    if !read_parts_fit(book, n, c, k, d, s) {
+        return refused(Refusal::BadBook);
+    }
+    settle_home(book, depots, c, d, s);
     let at = stored_at(d, k);
     let end = at + RECORD_WORDS;
     let answer = tell(&book[at..end], depots);
@@ -67,10 +85,7 @@ pub fn read(book: &mut [u32], crew: u32, bearing: u32) -> ReadAnswer
     ensures { λ r. ⌜ Read (now (book .entry)) crew bearing r (now (book .exit)) ⌝ }
 {
     match check_asked(book, crew, bearing) {
-        AskCheck::Bad(r) => ReadAnswer {
-            finding: Finding::Refused(r),
-            vector: [0, 0, 0, 0],
-        },
+        AskCheck::Bad(r) => refused(r),
         AskCheck::Good(c, k) => read_at(book, c, k),
     }
 }

@@ -1,27 +1,32 @@
 // Refresh: raise and show with, for each other depot, the lowest stamp seen over all shelves here.
 use crate::answer::Answer;
+use crate::answer::Refusal;
 use crate::check::PlaceCheck;
 use crate::check::check_place;
 use book::numbers::Depot;
 use book::numbers::Shelf;
 use book::parts::counts_of;
+use fit::named::refresh_parts_fit;
 use shelf::send::lowest_seen;
 use shelf::show::settle;
 ghost use mathlib.Core.Path.{_≡_};
 ghost use mathlib.Core.Bool.{true};
 ghost use Prim.Native.Nat.{_<_};
 ghost use Rattle.book.specs.Layout.{countsOf};
-ghost use Rattle.fit.specs.Fit.{fit};
-ghost use Rattle.register.specs.Calls.{refreshBook};
+ghost use Rattle.fit.specs.Named.{baseFit};
 ghost use Rattle.register.specs.Promises.{Refresh};
 
-fn refresh_at(book: &mut [u32], d: Depot, s: Shelf)
-    requires { ⌜ (fit (now book) ≡ true) × (d .0 < countsOf (now book) .depots) × (s .0 < countsOf (now book) .shelves) ⌝ }
-    ensures { λ r. ⌜ now (book .exit) ≡ refreshBook (now (book .entry)) (d .0) (s .0) ⌝ }
+fn refresh_at(book: &mut [u32], d: Depot, s: Shelf) -> Answer
+    requires { ⌜ (baseFit (now book) ≡ true) × (d .0 < countsOf (now book) .depots) × (s .0 < countsOf (now book) .shelves) ⌝ }
+    ensures { λ r. ⌜ Refresh (now (book .entry)) (d .0) (s .0) r (now (book .exit)) ⌝ }
 {
     let n = counts_of(book);
+    if !refresh_parts_fit(book, n, d, s) {
+        return Answer::Refused(Refusal::BadBook);
+    }
     let offered = lowest_seen(book, n.depots, n.shelves, d);
     settle(book, n.depots, d, s, &offered);
+    Answer::Done
 }
 
 // Refuses, in this order: BAD BOOK, BAD DEPOT, BAD SHELF.
@@ -30,9 +35,6 @@ pub fn refresh(book: &mut [u32], depot: u32, shelf: u32) -> Answer
 {
     match check_place(book, depot, shelf) {
         PlaceCheck::Bad(r) => Answer::Refused(r),
-        PlaceCheck::Good(d, s) => {
-            refresh_at(book, d, s);
-            Answer::Done
-        }
+        PlaceCheck::Good(d, s) => refresh_at(book, d, s),
     }
 }

@@ -6,22 +6,27 @@ use crate::check::check_link;
 use book::layout::Link;
 use book::numbers::Depot;
 use book::numbers::Shelf;
+use book::parts::counts_of;
 use book::parts::held_of;
 use book::parts::taken_of;
+use fit::named::take_parts_fit;
 use shelf::send::take_one;
 ghost use mathlib.Core.Path.{_≡_};
 ghost use mathlib.Core.Bool.{true};
 ghost use Prim.Native.Nat.{_<_};
 ghost use Rattle.book.specs.Layout.{countsOf};
-ghost use Rattle.fit.specs.Fit.{fit};
+ghost use Rattle.fit.specs.Named.{baseFit};
 ghost use Rattle.register.specs.Promises.{Take};
 
 fn take_at(book: &mut [u32], d: Depot, s: Shelf, from: Depot) -> Answer
-    requires { ⌜ (fit (now book) ≡ true) × (d .0 < countsOf (now book) .depots) × (from .0 < countsOf (now book) .depots) × (s .0 < countsOf (now book) .shelves) ⌝ }
+    requires { ⌜ (baseFit (now book) ≡ true) × (d .0 < countsOf (now book) .depots) × (from .0 < countsOf (now book) .depots) × (s .0 < countsOf (now book) .shelves) ⌝ }
     ensures { λ r. ⌜ Take (now (book .entry)) (d .0) (s .0) (from .0) r (now (book .exit)) ⌝ }
 {
     if d.index() == from.index() {
         return Answer::Refused(Refusal::SameDepot);
+    }
+    if !take_parts_fit(book, counts_of(book), d, s, from) {
+        return Answer::Refused(Refusal::BadBook);
     }
     let q = Link::between(s, from, d);
     let count = held_of(book, q);

@@ -9,24 +9,28 @@ use book::numbers::Depot;
 use book::numbers::Shelf;
 use book::parts::clock_of;
 use book::parts::counts_of;
+use fit::named::tick_parts_fit;
 use shelf::send::is_roomy;
 use shelf::send::send;
 ghost use mathlib.Core.Path.{_≡_};
 ghost use mathlib.Core.Bool.{true};
 ghost use Prim.Native.Nat.{_<_};
 ghost use Rattle.book.specs.Layout.{countsOf};
-ghost use Rattle.fit.specs.Fit.{fit};
+ghost use Rattle.fit.specs.Named.{baseFit};
 ghost use Rattle.register.specs.Promises.{Tick};
 
 fn tick_at(book: &mut [u32], d: Depot, s: Shelf) -> Answer
-    requires { ⌜ (fit (now book) ≡ true) × (d .0 < countsOf (now book) .depots) × (s .0 < countsOf (now book) .shelves) ⌝ }
+    requires { ⌜ (baseFit (now book) ≡ true) × (d .0 < countsOf (now book) .depots) × (s .0 < countsOf (now book) .shelves) ⌝ }
     ensures { λ r. ⌜ Tick (now (book .entry)) (d .0) (s .0) r (now (book .exit)) ⌝ }
 {
+    let n = counts_of(book);
+    if !tick_parts_fit(book, n, d, s) {
+        return Answer::Refused(Refusal::BadBook);
+    }
     let clock = clock_of(book, d, s);
     if END <= clock {
         return Answer::Refused(Refusal::ClockAtEnd);
     }
-    let n = counts_of(book);
     let depots = n.depots;
     if !is_roomy(book, depots, d, s) {
         return Answer::Refused(Refusal::LinkFull);

@@ -22,6 +22,7 @@ use book::numbers::Shelf;
 use book::parts::clock_of;
 use book::parts::counts_of;
 use book::words::write_words;
+use fit::named::write_parts_fit;
 use order::record::RECORD_WORDS;
 use order::record::is_above;
 use shelf::send::is_roomy;
@@ -34,7 +35,7 @@ ghost use lib.ListN.{length, set};
 ghost use Rattle.order.specs.Order.{above};
 ghost use Rattle.order.specs.Record.{mostDepots, recordWords, bearingOf, rankOf};
 ghost use Rattle.book.specs.Layout.{bookWords, bearingRoom, mostCrews, copyKind, countsOf, home, stored, crewVector, crewAt};
-ghost use Rattle.fit.specs.Fit.{fit};
+ghost use Rattle.fit.specs.Named.{baseFit};
 ghost use Rattle.shelf.specs.Show.{keptIn, settled};
 ghost use Rattle.shelf.specs.Asks.{Ready};
 ghost use Rattle.register.specs.Calls.{withEntry, versionWords, newStamp, isCurrent, writeBook};
@@ -166,13 +167,16 @@ fn write_version(
 }
 
 fn write_at(book: &mut [u32], c: Crew, k: Bearing, value: u32) -> WriteAnswer
-    requires { ⌜ (fit (now book) ≡ true) × (c .0 < countsOf (now book) .crews) × (k .0 < countsOf (now book) .bearings) ⌝ }
+    requires { ⌜ (baseFit (now book) ≡ true) × (c .0 < countsOf (now book) .crews) × (k .0 < countsOf (now book) .bearings) ⌝ }
     ensures { λ r. ⌜ Write (now (book .entry)) (c .0) (k .0) value r (now (book .exit)) ⌝ }
 {
     let n = counts_of(book);
     let depots = n.depots;
     let d = home_depot(book, n, c);
     let s = shelf_for(k, n);
+    if !write_parts_fit(book, n, c, k, d, s) {
+        return WriteAnswer::Refused(Refusal::BadBook);
+    }
     let clock = clock_of(book, d, s);
     if clock < book[crew_at(c) + d.index()] {
         return WriteAnswer::Refused(Refusal::Wait);

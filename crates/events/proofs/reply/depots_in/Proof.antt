@@ -1,20 +1,20 @@
--- `events::reply::depots_in` meets its contract: a fit book has its length and at most four depots.
+-- `events::reply::depots_in` meets its contract: such a book has at most four depots.
 -- Assumes nothing.
 use native.Mathlib.Omega.{arith}
 use mathlib.Core.Path.{_≡_, ap}
 use Rattle.book.specs.declared.parts.Counts.{Counts}
-use Rattle.fit.proofs.FitLaws.{fit-open, counts-within}
+use Rattle.fit.proofs.NamedLaws.{base-open}
 use borrow.Author.Needs.{needs}
 use Rattle.events.proofs.reply.depots_in.Statement.{statement}
 use Rattle.events.proofs.reply.depots_in.Tie as tie
 
 returns : tie.Need-returns
-returns c = (omega arith, λ f. absurd (c .if1 .taken (fit-open _ f .full)))
+returns c = (omega arith, λ f. absurd (c .if1 .taken (base-open _ f .full)))
 
 returns-2 : tie.Need-returns-2
 returns-2 c =
     let same = ap (λ (x : Counts). x .depots) (c .before .before .counts-of .ensures) in
-    (omega arith, λ f. let w = counts-within _ (fit-open _ f .counts) .depots in absurd (omega (arith, c .if2 .taken)))
+    (omega arith, λ f. let w = base-open _ f .within .depots in absurd (omega (arith, c .if2 .taken)))
 
 returns-3 : tie.Need-returns-3
 returns-3 c = (c .if2 .left, λ f. ap (λ (x : Counts). x .depots) (c .before .before .counts-of .ensures))

@@ -1,6 +1,7 @@
 -- `events::reply::run_read` meets its contract: the promise of the call settles what is printed.
 -- Assumes nothing.
 use Rattle.line.proofs.PrintLaws.{wrote-same}
+use Rattle.fit.proofs.NamedLaws.{read-based}
 use Rattle.register.proofs.Numbers.{read-done}
 use Rattle.events.specs.Answering.{eventBook, eventSays}
 use Rattle.events.proofs.NumberLaws.{read-under}
@@ -16,7 +17,7 @@ returns c =
     let promise = call .read .ensures in
     let looked = call .before .before .before .before in (
       promise .book,
-      wrote-same (found-by-number _ _ _ _ _ (read-under _ _ _) (λ z. looked .depots-in .ensures .1 (read-done _ _ _ z .fits)) (promise .answer))
+      wrote-same (found-by-number _ _ _ _ _ (read-under _ _ _) (λ z. looked .depots-in .ensures .1 (read-based _ _ _ (read-done _ _ _ z .fits))) (promise .answer))
           (c .before .before .say-finding .ensures),
     )
 

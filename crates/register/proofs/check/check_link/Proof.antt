@@ -8,8 +8,8 @@ use Rattle.order.specs.Loops.{pick}
 use Rattle.order.proofs.BoolLaws.{test-passed, test-failed}
 use Rattle.book.specs.declared.parts.Counts.{Counts}
 use Rattle.book.specs.Layout.{countsOf}
-use Rattle.fit.specs.Fit.{fit}
-use Rattle.fit.proofs.FitLaws.{fit-open}
+use Rattle.fit.specs.Named.{baseFit}
+use Rattle.fit.proofs.NamedLaws.{base-open}
 use Rattle.register.specs.declared.check.LinkCheck.{LinkCheck}
 use Rattle.register.specs.Answers.{refusalOf, numbered, numberOf}
 use Rattle.register.specs.Checks.{linkOfNumber}
@@ -19,9 +19,9 @@ use borrow.Author.Needs.{needs}
 use Rattle.register.proofs.check.check_link.Statement.{statement}
 use Rattle.register.proofs.check.check_link.Tie as tie
 
--- the book is fit where the first check passed
-is-fit-book : (c : tie.Else1) → fit (now (c .before .before .before .args .book)) ≡ true
-is-fit-book c = test-passed (c .before .is-fit .ensures) (c .if1 .left)
+-- what the first check says where it passed
+base-book : (c : tie.Else1) → baseFit (now (c .before .before .before .args .book)) ≡ true
+base-book c = test-passed (c .before .base-fits .ensures) (c .if1 .left)
 
 -- what is said of the counts that were read is said of those in the book
 depots-over : (c : tie.After-counts-of) (x : ℕ) → c .counts-of .result .depots ≤ x → countsOf (now (c .before .before .before .before .args .book)) .depots ≤ x
@@ -34,10 +34,10 @@ returns : tie.Need-returns
 unfolding linkOfNumber refusalOf numbered numberOf pick
 returns c =
     let args = c .before .before .before .args in
-    sym (ap (λ (x : ℕ). linkOfNumber x (args .depot) (args .shelf) (args .from)) (link-book (now (args .book)) _ _ _ (test-failed (c .before .is-fit .ensures) (c .if1 .taken))))
+    sym (ap (λ (x : ℕ). linkOfNumber x (args .depot) (args .shelf) (args .from)) (link-book (now (args .book)) _ _ _ (test-failed (c .before .base-fits .ensures) (c .if1 .taken))))
 
 counts-of-requires : tie.Need-counts-of-requires
-counts-of-requires c κs = fit-open _ (is-fit-book c) .full
+counts-of-requires c κs = base-open _ (base-book c) .full
 
 returns-2 : tie.Need-returns-2
 unfolding linkOfNumber refusalOf numbered numberOf pick
@@ -45,7 +45,7 @@ returns-2 c =
     let at = c .before .before in
     let args = at .before .before .before .before .before .args in
     let over = depots-over (at .before) _ (bad-depot (at .checked .ensures) (c .enum-told .given .1)) in
-    sym (ap (λ (x : ℕ). linkOfNumber x (args .depot) (args .shelf) (args .from)) (link-depot (now (args .book)) _ _ _ (is-fit-book (at .before .before)) over))
+    sym (ap (λ (x : ℕ). linkOfNumber x (args .depot) (args .shelf) (args .from)) (link-depot (now (args .book)) _ _ _ (base-book (at .before .before)) over))
 
 returns-3 : tie.Need-returns-3
 unfolding linkOfNumber refusalOf numbered numberOf pick
@@ -54,7 +54,7 @@ returns-3 c =
     let at = at2 .before .before .before .before in
     let args = at .before .before .before .before .before .args in
     let over = depots-over (at .before) _ (bad-depot (at2 .checked2 .ensures) (c .enum-told2 .given .1)) in
-    sym (ap (λ (x : ℕ). linkOfNumber x (args .depot) (args .shelf) (args .from)) (link-from (now (args .book)) _ _ _ (is-fit-book (at .before .before)) over))
+    sym (ap (λ (x : ℕ). linkOfNumber x (args .depot) (args .shelf) (args .from)) (link-from (now (args .book)) _ _ _ (base-book (at .before .before)) over))
 
 returns-4 : tie.Need-returns-4
 unfolding linkOfNumber refusalOf numbered numberOf pick
@@ -68,7 +68,7 @@ returns-4 c =
     let under = depots-under (at .before) _ (good-depot _ (at .checked .ensures) (at2 .before .before .d .given .1) .0) in
     let under2 = depots-under (at .before) _ (good-depot _ (at2 .checked2 .ensures) (at3 .before .before .o .given .1) .0) in
     let over : countsOf book .shelves ≤ args .shelf = subst (λ (m : Counts). m .shelves ≤ args .shelf) n (bad-shelf (at3 .checked3 .ensures) (c .enum-told3 .given .1)) in
-    sym (ap (λ (x : ℕ). linkOfNumber x (args .depot) (args .shelf) (args .from)) (link-shelf book _ _ _ (is-fit-book (at .before .before)) under under2 over))
+    sym (ap (λ (x : ℕ). linkOfNumber x (args .depot) (args .shelf) (args .from)) (link-shelf book _ _ _ (base-book (at .before .before)) under under2 over))
 
 returns-5 : tie.Need-returns-5
 unfolding linkOfNumber refusalOf numbered numberOf pick
@@ -86,7 +86,7 @@ returns-5 c =
     let under2 = depots-under (at .before) _ (second .0) in
     let under3 : args .shelf < countsOf book .shelves = subst (λ (m : Counts). args .shelf < m .shelves) n (third .0) in
     sym
-    (ap (λ (x : ℕ). linkOfNumber x (args .depot) (args .shelf) (args .from)) (link-good book _ _ _ (is-fit-book (at .before .before)) under under2 under3)
+    (ap (λ (x : ℕ). linkOfNumber x (args .depot) (args .shelf) (args .from)) (link-good book _ _ _ (base-book (at .before .before)) under under2 under3)
     ∙ (λ z. LinkCheck.Good (first .1 z) (third .1 z) (second .1 z)))
 
 pub check-link-spec : {M : Type 1} → statement M

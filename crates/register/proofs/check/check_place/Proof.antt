@@ -10,8 +10,8 @@ use Rattle.book.specs.declared.parts.Counts.{Counts}
 use Rattle.book.specs.Layout.{countsOf}
 use Rattle.book.specs.declared.numbers.Depot.{Depot}
 use Rattle.book.specs.declared.numbers.Shelf.{Shelf}
-use Rattle.fit.specs.Fit.{fit}
-use Rattle.fit.proofs.FitLaws.{fit-open}
+use Rattle.fit.specs.Named.{baseFit}
+use Rattle.fit.proofs.NamedLaws.{base-open}
 use Rattle.register.specs.declared.check.PlaceCheck.{PlaceCheck}
 use Rattle.register.specs.Answers.{refusalOf, numbered, numberOf}
 use Rattle.register.specs.Checks.{placeOfNumber}
@@ -21,18 +21,18 @@ use borrow.Author.Needs.{needs}
 use Rattle.register.proofs.check.check_place.Statement.{statement}
 use Rattle.register.proofs.check.check_place.Tie as tie
 
--- the book is fit where the first check passed
-is-fit-book : (c : tie.Else1) → fit (now (c .before .before .before .args .book)) ≡ true
-is-fit-book c = test-passed (c .before .is-fit .ensures) (c .if1 .left)
+-- what the first check says where it passed
+base-book : (c : tie.Else1) → baseFit (now (c .before .before .before .args .book)) ≡ true
+base-book c = test-passed (c .before .base-fits .ensures) (c .if1 .left)
 
 returns : tie.Need-returns
 unfolding placeOfNumber refusalOf numbered numberOf pick
 returns c =
     let args = c .before .before .before .args in
-    sym (ap (λ (x : ℕ). placeOfNumber x (args .depot) (args .shelf)) (place-book (now (args .book)) _ _ (test-failed (c .before .is-fit .ensures) (c .if1 .taken))))
+    sym (ap (λ (x : ℕ). placeOfNumber x (args .depot) (args .shelf)) (place-book (now (args .book)) _ _ (test-failed (c .before .base-fits .ensures) (c .if1 .taken))))
 
 counts-of-requires : tie.Need-counts-of-requires
-counts-of-requires c κs = fit-open _ (is-fit-book c) .full
+counts-of-requires c κs = base-open _ (base-book c) .full
 
 returns-2 : tie.Need-returns-2
 unfolding placeOfNumber refusalOf numbered numberOf pick
@@ -41,7 +41,7 @@ returns-2 c =
     let n = at .before .counts-of .ensures in
     let args = at .before .before .before .before .before .args in
     let over : countsOf (now (args .book)) .depots ≤ args .depot = subst (λ (m : Counts). m .depots ≤ args .depot) n (bad-depot (at .checked .ensures) (c .enum-told .given .1)) in
-    sym (ap (λ (x : ℕ). placeOfNumber x (args .depot) (args .shelf)) (place-depot (now (args .book)) _ _ (is-fit-book (at .before .before)) over))
+    sym (ap (λ (x : ℕ). placeOfNumber x (args .depot) (args .shelf)) (place-depot (now (args .book)) _ _ (base-book (at .before .before)) over))
 
 returns-3 : tie.Need-returns-3
 unfolding placeOfNumber refusalOf numbered numberOf pick
@@ -54,7 +54,7 @@ returns-3 c =
     let under : args .depot < countsOf book .depots =
     subst (λ (m : Counts). args .depot < m .depots) n (good-depot _ (at .checked .ensures) (at2 .before .before .d .given .1) .0) in
     let over : countsOf book .shelves ≤ args .shelf = subst (λ (m : Counts). m .shelves ≤ args .shelf) n (bad-shelf (at2 .checked2 .ensures) (c .enum-told2 .given .1)) in
-    sym (ap (λ (x : ℕ). placeOfNumber x (args .depot) (args .shelf)) (place-shelf book _ _ (is-fit-book (at .before .before)) under over))
+    sym (ap (λ (x : ℕ). placeOfNumber x (args .depot) (args .shelf)) (place-shelf book _ _ (base-book (at .before .before)) under over))
 
 returns-4 : tie.Need-returns-4
 unfolding placeOfNumber refusalOf numbered numberOf pick
@@ -69,7 +69,7 @@ returns-4 c =
     let under : args .depot < countsOf book .depots = subst (λ (m : Counts). args .depot < m .depots) n (first .0) in
     let under2 : args .shelf < countsOf book .shelves = subst (λ (m : Counts). args .shelf < m .shelves) n (second .0) in
     sym
-    (ap (λ (x : ℕ). placeOfNumber x (args .depot) (args .shelf)) (place-good book _ _ (is-fit-book (at .before .before)) under under2)
+    (ap (λ (x : ℕ). placeOfNumber x (args .depot) (args .shelf)) (place-good book _ _ (base-book (at .before .before)) under under2)
     ∙ (λ z. PlaceCheck.Good (first .1 z) (second .1 z)))
 
 pub check-place-spec : {M : Type 1} → statement M

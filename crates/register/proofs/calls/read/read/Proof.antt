@@ -13,8 +13,9 @@ use Rattle.register.specs.declared.answer.ReadAnswer.{ReadAnswer}
 use mathlib.Core.List.{[], _∷_}
 use Rattle.register.specs.Answers.{readRefused}
 use Rattle.register.specs.Promises.{Read}
-use Rattle.register.proofs.CallLaws.{bad-asked, good-asked, after-refused}
-use Rattle.register.proofs.Numbers.{read-done}
+use Rattle.register.proofs.CallLaws.{bad-asked, good-asked, refused-read, refused-book}
+use Rattle.register.proofs.SendTable.{read-bad}
+use Rattle.register.proofs.Numbers.{asked-done}
 use borrow.Author.Needs.{needs}
 use Rattle.register.proofs.calls.read.read.Statement.{statement}
 use Rattle.register.proofs.calls.read.read.Tie as tie
@@ -25,21 +26,18 @@ read-at-requires c κs =
     let args = at .before .before .before .args in
     let book = now (args .book) in
     let good = good-asked _ _ _ _ _ (at .check-asked .ensures) (c .before .before .c .given .1) in
-    let done = read-done book (args .crew) (args .bearing) (good .0) in (
-      done .fits,
-      subst (λ (x : Crew). x .0 < countsOf book .crews) (good .1) (done .crew),
-      subst (λ (x : Bearing). x .0 < countsOf book .bearings) (good .2) (done .bearing),
+    let done = asked-done book (args .crew) (args .bearing) (good .0) in (
+      done .0,
+      subst (λ (x : Crew). x .0 < countsOf book .crews) (good .1) (done .1),
+      subst (λ (x : Bearing). x .0 < countsOf book .bearings) (good .2) (done .2),
     )
 
 returns : tie.Need-returns
-unfolding readRefused
 returns c =
-    let at = c .before .before .before in
-    let bad = bad-asked _ _ _ _ (at .check-asked .ensures) (c .before .r .given .1) in
-    record {
-      answer = (λ z. record { finding = Finding.Refused (sym (bad .1) z); vector = 0 ∷ 0 ∷ 0 ∷ 0 ∷ [] }) ∙ sym (pick-false _ _ (bad .0));
-      book = after-refused _ _ _ (bad .0);
-    }
+    let at = c .before .before .before .before in
+    let bad = bad-asked _ _ _ _ (at .check-asked .ensures) (c .before .before .r .given .1) in
+    let same = read-bad _ _ _ (bad .0) in
+    record { answer = c .refused .ensures ∙ refused-read _ _ _ same (bad .0) (bad .1); book = refused-book _ _ _ _ same (bad .0) }
 
 returns-2 : tie.Need-returns-2
 returns-2 c =
@@ -55,6 +53,7 @@ read-spec =
     (tie.spec
     (λ c κs. search needs)
     (λ c. search needs)
+    (λ c κs. search needs)
     (λ c. search needs)
     read-at-requires
     (λ c. search needs)

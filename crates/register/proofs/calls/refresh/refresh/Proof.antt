@@ -1,14 +1,16 @@
 -- `register::calls::refresh::refresh` meets its contract: the shared checks, then the rest.
 -- Assumes nothing.
 use Prim.Native.Nat.{ℕ, _<_}
-use mathlib.Core.Path.{_≡_, _∙_, refl, sym, ap₂, subst}
+use mathlib.Core.Path.{_≡_, _∙_, sym, subst, subst₂}
+use mathlib.Core.Bool.{true}
 use denote.Ref.{now}
 use Rattle.book.specs.Layout.{countsOf}
 use Rattle.book.specs.declared.numbers.Depot.{Depot}
 use Rattle.book.specs.declared.numbers.Shelf.{Shelf}
-use Rattle.register.specs.Calls.{refreshBook}
-use Rattle.register.proofs.CallLaws.{bad-place, good-place, refused-answer, refused-book, answer-done, after-done}
-use Rattle.register.proofs.Numbers.{refresh-done}
+use Rattle.register.specs.Promises.{Refresh}
+use Rattle.register.proofs.CallLaws.{bad-place, good-place, refused-answer, refused-book}
+use Rattle.register.proofs.Numbers.{place-done}
+use Rattle.register.proofs.SendTable.{refresh-bad}
 use borrow.Author.Needs.{needs}
 use Rattle.register.proofs.calls.refresh.refresh.Statement.{statement}
 use Rattle.register.proofs.calls.refresh.refresh.Tie as tie
@@ -19,17 +21,18 @@ refresh-at-requires c κs =
     let args = at .before .before .before .args in
     let book = now (args .book) in
     let good = good-place _ _ _ _ _ (at .check-place .ensures) (c .before .before .d .given .1) in
-    let done = refresh-done book (args .depot) (args .shelf) (good .0) in (
-      done .fits,
-      subst (λ (x : Depot). x .0 < countsOf book .depots) (good .1) (done .depot),
-      subst (λ (x : Shelf). x .0 < countsOf book .shelves) (good .2) (done .shelf),
+    let done = place-done book (args .depot) (args .shelf) (good .0) in (
+      done .0,
+      subst (λ (x : Depot). x .0 < countsOf book .depots) (good .1) (done .1),
+      subst (λ (x : Shelf). x .0 < countsOf book .shelves) (good .2) (done .2),
     )
 
 returns : tie.Need-returns
 returns c =
     let at = c .before .before .before in
     let bad = bad-place _ _ _ _ (at .check-place .ensures) (c .before .r .given .1) in
-    record { answer = refused-answer _ _ refl (bad .0) (bad .1); book = refused-book _ _ _ _ refl (bad .0) }
+    let same = refresh-bad _ _ _ (bad .0) in
+    record { answer = refused-answer _ _ same (bad .0) (bad .1); book = refused-book _ _ _ _ same (bad .0) }
 
 returns-2 : tie.Need-returns-2
 returns-2 c =
@@ -37,7 +40,7 @@ returns-2 c =
     let at = c .before .before .before .before .before .before .before in
     let book = now (at .before .before .before .args .book) in
     let good = good-place _ _ _ _ _ (at .check-place .ensures) (c .before .before .before .before .before .d .given .1) in
-    record { answer = answer-done _ (good .0); book = call .ensures ∙ ap₂ (λ (x : Depot) (y : Shelf). refreshBook book (x .0) (y .0)) (sym (good .1)) (sym (good .2)) ∙ after-done _ _ _ (good .0) }
+    subst₂ (λ (x : Depot) (y : Shelf). Refresh book (x .0) (y .0) (call .result) (call .last .0)) (sym (good .1)) (sym (good .2)) (call .ensures)
 
 pub refresh-spec : {M : Type 1} → statement M
 refresh-spec =

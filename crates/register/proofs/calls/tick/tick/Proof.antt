@@ -9,7 +9,7 @@ use Rattle.book.specs.declared.numbers.Depot.{Depot}
 use Rattle.book.specs.declared.numbers.Shelf.{Shelf}
 use Rattle.register.specs.Promises.{Tick}
 use Rattle.register.proofs.CallLaws.{bad-place, good-place, refused-answer, refused-book}
-use Rattle.register.proofs.Numbers.{refresh-done}
+use Rattle.register.proofs.Numbers.{place-done}
 use Rattle.register.proofs.SendTable.{tick-bad}
 use borrow.Author.Needs.{needs}
 use Rattle.register.proofs.calls.tick.tick.Statement.{statement}
@@ -21,10 +21,10 @@ tick-at-requires c κs =
     let args = at .before .before .before .args in
     let book = now (args .book) in
     let good = good-place _ _ _ _ _ (at .check-place .ensures) (c .before .before .d .given .1) in
-    let done = refresh-done book (args .depot) (args .shelf) (good .0) in (
-      done .fits,
-      subst (λ (x : Depot). x .0 < countsOf book .depots) (good .1) (done .depot),
-      subst (λ (x : Shelf). x .0 < countsOf book .shelves) (good .2) (done .shelf),
+    let done = place-done book (args .depot) (args .shelf) (good .0) in (
+      done .0,
+      subst (λ (x : Depot). x .0 < countsOf book .depots) (good .1) (done .1),
+      subst (λ (x : Shelf). x .0 < countsOf book .shelves) (good .2) (done .2),
     )
 
 returns : tie.Need-returns

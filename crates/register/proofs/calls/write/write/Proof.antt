@@ -8,7 +8,7 @@ use Rattle.book.specs.declared.numbers.Crew.{Crew}
 use Rattle.book.specs.declared.numbers.Bearing.{Bearing}
 use Rattle.register.specs.Promises.{Write}
 use Rattle.register.proofs.CallLaws.{bad-asked, good-asked, refused-write, refused-book}
-use Rattle.register.proofs.Numbers.{read-done}
+use Rattle.register.proofs.Numbers.{asked-done}
 use Rattle.register.proofs.SendTable.{write-bad}
 use borrow.Author.Needs.{needs}
 use Rattle.register.proofs.calls.write.write.Statement.{statement}
@@ -20,10 +20,10 @@ write-at-requires c κs =
     let args = at .before .before .before .args in
     let book = now (args .book) in
     let good = good-asked _ _ _ _ _ (at .check-asked .ensures) (c .before .before .c .given .1) in
-    let done = read-done book (args .crew) (args .bearing) (good .0) in (
-      done .fits,
-      subst (λ (x : Crew). x .0 < countsOf book .crews) (good .1) (done .crew),
-      subst (λ (x : Bearing). x .0 < countsOf book .bearings) (good .2) (done .bearing),
+    let done = asked-done book (args .crew) (args .bearing) (good .0) in (
+      done .0,
+      subst (λ (x : Crew). x .0 < countsOf book .crews) (good .1) (done .1),
+      subst (λ (x : Bearing). x .0 < countsOf book .bearings) (good .2) (done .2),
     )
 
 returns : tie.Need-returns

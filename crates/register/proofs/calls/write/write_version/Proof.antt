@@ -12,7 +12,7 @@ use Rattle.shelf.specs.Show.{keptIn}
 use Rattle.register.specs.Answers.{cut}
 use Rattle.register.specs.Calls.{madeRecord, writtenCrew}
 use Rattle.register.proofs.MadeLaws.{length-made, made-bearing}
-use Rattle.register.proofs.WriteLaws.{copy-made, record-made, crew-made, current-made, store-made, sent-made, answer-made, may-done, may-whole, may-ready, may-free}
+use Rattle.register.proofs.WriteLaws.{copy-made, record-made, crew-made, current-made, store-made, sent-made, answer-made, may-done, may-based, may-ready, may-free}
 use borrow.Author.Needs.{needs}
 use Rattle.register.proofs.calls.write.write_version.Statement.{statement}
 use Rattle.register.proofs.calls.write.write_version.Tie as tie
@@ -22,7 +22,7 @@ limits :
     (c : tie.Start) →
     (length (now (c .args .book)) ≡ 16384) × (c .args .n ≤ 4) × (c .args .c .0 < 16) × (c .args .d .0 < 4) × (c .args .k .0 < 160)
 limits c =
-    let w = may-whole _ _ _ (c .args .value) (c .pre) in
+    let w = may-based _ _ _ (c .args .value) (c .pre) in
     let done = may-done _ _ _ (c .args .value) (c .pre) in
     let ready = may-ready _ _ _ (c .args .value) (c .pre) in
     (w .full, ready .depots, lt-of-lt-of-le (done .crew) (w .within .crews), ready .depot, lt-of-lt-of-le (done .bearing) (w .within .bearings))
