@@ -1,6 +1,6 @@
 -- A fit book whose view is a state: what each part of the state is in the book's words.
 -- Assumes nothing.
-use Prim.Native.Nat.{ℕ, suc, _%_, _<_, min}
+use Prim.Native.Nat.{ℕ, suc, _%_, _<_}
 use native.Mathlib.Nat.{mod-lt}
 use mathlib.Core.Path.{_≡_, refl, sym, _∙_, ap, ap₂, subst}
 use mathlib.Core.Bool.{true}
@@ -8,18 +8,16 @@ use mathlib.Core.List.{List}
 use borrow.Author.Tests.{lt-ltb, eq-eqb}
 use Rattle.order.specs.Vector.{Vec}
 use Rattle.order.proofs.BoolLaws.{and-intro, pick-true}
-use Rattle.order.proofs.LoopLaws.{times-same}
-use Rattle.book.specs.Layout.{home, crewVector, clock, stable, seen, linkOf, stored}
+use Rattle.book.specs.Layout.{home, crewVector, clock, stable, seen, linkOf, held, stored}
 use Rattle.fit.specs.Fit.{fit}
 use Rattle.register.specs.Calls.{readRecord, madeRecord}
-use Rattle.model.specs.Parts.{Counts, Write, Shelf, State, put, lowest, end}
-use Rattle.model.specs.Rules.{settled}
+use Rattle.model.specs.Parts.{Counts, Write, Shelf, State, put}
+use Rattle.model.specs.Rules.{settled, holds}
 use Rattle.model.specs.Calls.{made, answered, homeShelf, shelfOf}
 use Rattle.model.proofs.Places.{Other, other-intro}
-use Rattle.bridge.specs.View.{countsIn, entriesAt, versionOf, writeOf, untakenOn, storeAt, shelfAt, viewBy, view}
-use Rattle.bridge.specs.Demands.{lowestClock}
+use Rattle.bridge.specs.View.{countsIn, entriesAt, versionOf, writeOf, storeAt, shelfAt, viewBy, view}
 use Rattle.bridge.proofs.Sound.{Sound, sound}
-use Rattle.bridge.proofs.Looks.{shelf-here, crew-here, home-here, untaken-here}
+use Rattle.bridge.proofs.Looks.{shelf-here, crew-here, home-here, holds-here}
 use Rattle.bridge.proofs.Numbers.{home-clock}
 use Rattle.bridge.proofs.HomeView.{home-stored}
 use Rattle.bridge.proofs.MadeView.{newVector, made-write}
@@ -73,8 +71,9 @@ module _ (π : Counts) (σ : State) (l : List ℕ) (A : Agrees π σ l) where
   unfolding shelfAt
   seen-by d s x kd ks kx = ap (λ (h : Shelf). h .seen x) (shelf-by d s kd ks) ∙ pick-true _ _ (other-intro kx)
 
-  pub untaken-by : (d s o : ℕ) → d < π .depots → s < π .shelves → Other (π .depots) d o → σ .shelf d s .untaken o ≡ untakenOn (π .depots) l (linkOf s o d)
-  untaken-by d s o kd ks ko = ap (λ (h : Shelf). h .untaken o) (shelf-by d s kd ks) ∙ untaken-here π l d s o ko
+  pub held-by : (d s o : ℕ) → d < π .depots → s < π .shelves → Other (π .depots) d o → holds o (σ .shelf d s) ≡ held l (linkOf s o d)
+  held-by d s o kd ks ko =
+      ap (holds o) (shelf-by d s kd ks) ∙ holds-here π l d s o ko (sound-by .links s o d ks (ko .below) kd (ko .apart) .order)
 
   pub on-shelf : (k : ℕ) → k % π .shelves < π .shelves
   on-shelf k = mod-lt k (sound-by .small .shelf)
@@ -104,7 +103,3 @@ module _ (π : Counts) (σ : State) (l : List ℕ) (A : Agrees π σ l) where
       ap (λ (p : Counts). versionOf (p .depots) (readRecord l c k)) (sym (A .counts))
       ∙ answered-here l (A .fits) c k (subst (λ (p : Counts). c < p .crews) (sym (A .counts)) kc) (subst (λ (p : Counts). k < p .bearings) (sym (A .counts)) kk)
       ∙ ap₂ (λ (p : Counts) (τ : State). answered p c k τ) (A .counts) (A .views)
-
-  pub lowest-by : (d : ℕ) → d < π .depots → lowest (π .shelves) (λ s. σ .shelf d s .clock) ≡ lowestClock (π .shelves) l d
-  unfolding lowest lowestClock end
-  lowest-by d kd = times-same (π .shelves) _ _ 2147483647 λ s m ks. ap (λ (t : ℕ). min m t) (clock-by d s kd ks)

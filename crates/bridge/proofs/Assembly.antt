@@ -15,12 +15,14 @@ use Rattle.register.specs.Promises.{after}
 use Rattle.register.specs.declared.answer.Answer as register
 use Rattle.register.specs.Answers.{answerOf}
 use Rattle.model.specs.Parts.{Counts}
-use Rattle.model.specs.Calls.{Call, Answer, done, refused, refusal, acted, step}
+use Rattle.paper.specs.Calls.{Call, Answer, done, refused, answerBy}
+use Rattle.model.specs.Calls.{refusal, acted, step}
 use Rattle.bridge.specs.View.{countsIn, viewBy, view}
-use Rattle.bridge.specs.Paper.{paper}
+use Rattle.upkeep.specs.Paper.{paper}
 use Rattle.bridge.specs.Bridged.{Bridged}
+use Rattle.upkeep.proofs.PaperLaws.{Known, paper-number}
 use Rattle.bridge.proofs.Basics.{pick-then, pick-ap, pick-same}
-use Rattle.bridge.proofs.Numbers.{Known, paper-number, step-answer, step-state}
+use Rattle.bridge.proofs.Numbers.{step-answer, step-state}
 
 pub counts-same : (l m : List ℕ) → ((j : ℕ) → j < 4 → getD m j 0 ≡ getD l j 0) → countsIn m ≡ countsIn l
 counts-same l m h = λ i. record { depots = h 0 (omega arith) i; shelves = h 1 (omega arith) i; bearings = h 2 (omega arith) i; crews = h 3 (omega arith) i }
@@ -47,13 +49,14 @@ module _ (l : List ℕ) (F : fit l ≡ true) (q : Call) (number : ℕ) (agrees :
   )
 
   -- an answer that is a where the call is done, else the refusal with its number
-  pub bridged : (r a : Answer) (l′ : List ℕ) → r ≡ pick (eqb number 0) a (refused number) → (number ≡ 0 → a ≡ acted (countsIn l) (view l) q .answer) → l′ ≡ after number changed l
+  pub bridged : (r a : Answer) (l′ : List ℕ) → r ≡ answerBy number a → (number ≡ 0 → a ≡ acted (countsIn l) (view l) q .answer) → l′ ≡ after number changed l
       → Bridged l q r l′
+  unfolding answerBy
   bridged r a l′ answer tells book =
       let b = book-after l′ book in
       record {
         answers = answer ∙ pick-then (eqb number 0) (refused number) (λ t. tells (eqb-true number 0 t))
-            ∙ ap (λ (k : ℕ). pick (eqb k 0) (acted (countsIn l) (view l) q .answer) (refused k)) agrees
+            ∙ ap (λ (k : ℕ). answerBy k (acted (countsIn l) (view l) q .answer)) agrees
             ∙ sym (step-answer (countsIn l) (view l) q);
         leaves = b .0;
         counts = b .1;

@@ -24,12 +24,6 @@ pub mod TheBridge
 pub mod Agrees
 pub mod Followed
 pub mod BookDemand1
-pub mod BookPast
-pub mod BookMade
-pub mod BookDemand2
-pub mod BookRounds
-pub mod BookDemand3
-pub mod BookLimits
 pub mod TheDemands
 pub mod LastSetup
 pub mod ListingHolds

@@ -16,48 +16,48 @@ use Rattle.register.specs.Calls.{setUp}
 use Rattle.register.specs.Promises as promises
 use Rattle.register.specs.Table as table
 use Rattle.model.specs.Parts.{fresh}
-use Rattle.model.specs.Calls as model
+use Rattle.paper.specs.Calls.{Call, Answer, done, first}
 use Rattle.model.specs.Cases as cases
 use Rattle.model.proofs.Worked.{listing-holds, caseC-before, caseC-after}
 use Rattle.bridge.specs.View.{toModel}
-use Rattle.bridge.specs.Histories.{Call, setup, replyTo, bookAfter, replies, last}
-use Rattle.bridge.specs.Paper.{paper, onPaper}
-use Rattle.bridge.specs.Listing.{counts, homes, linesToB, lines, printed, Listed}
+use Rattle.upkeep.specs.Requests.{setup, call, numberAt, changedBy, replyTo, bookAfter, replies, last}
+use Rattle.upkeep.specs.Paper.{paper, onPaper}
+use Rattle.bridge.specs.Listing.{counts, homes, linesToB, lines, Listed}
 use Rattle.bridge.proofs.Agrees.{Agrees, stable-by}
-use Rattle.bridge.proofs.Followed.{lift, lifts, agrees-start, replies-model, last-model}
+use Rattle.bridge.proofs.Followed.{agrees-start, replies-model, last-model}
 
 module _ (l : List ℕ) (full : length l ≡ bookWords) where
   set : table.setupNumber l counts homes ≡ 0
-  unfolding table.setupNumber table.first counts homes countsFit between pick every
+  unfolding table.setupNumber first counts homes countsFit between pick every
   set = ap (λ (b : Bool). pick (not b) 1 0) (eq-eqb (length l) bookWords full)
 
   start : Agrees (toModel counts) (fresh homes) (setUp counts homes)
   start = agrees-start l counts homes set
 
   set-book : bookAfter l (setup counts homes) ≡ setUp counts homes
-  unfolding bookAfter promises.after
+  unfolding bookAfter numberAt changedBy promises.after
   set-book = pick-true _ _ (eq-eqb _ 0 set)
 
-  set-reply : onPaper 2 (replyTo l (setup counts homes)) ≡ model.done
+  set-reply : onPaper 2 (replyTo l (setup counts homes)) ≡ done
   unfolding replyTo onPaper answerOf paper pick
   set-reply = ap (λ (k : ℕ). paper (answerOf k)) set
 
-  listed-lines : map (onPaper 2) (replies l (setup counts homes ∷ lifts cases.listing)) ≡ model.done ∷ cases.listingAnswers
+  listed-lines : map (onPaper 2) (replies l (setup counts homes ∷ map call cases.listing)) ≡ done ∷ cases.listingAnswers
   unfolding replies counts homes cases.counts cases.homes
   listed-lines =
-      ap₂ (λ (x : model.Answer) (y : List model.Answer). x ∷ y) set-reply
-      (ap (λ (b : List ℕ). map (onPaper 2) (replies b (lifts cases.listing))) set-book
+      ap₂ (λ (x : Answer) (y : List Answer). x ∷ y) set-reply
+      (ap (λ (b : List ℕ). map (onPaper 2) (replies b (map call cases.listing))) set-book
       ∙ replies-model (toModel counts) (fresh homes) (setUp counts homes) cases.listing start
       ∙ listing-holds)
 
-  stable-last : (calls : List model.Call) → stable (last l (setup counts homes ∷ lifts calls)) 1 0 0 ≡ cases.stableAfter calls
+  stable-last : (calls : List Call) → stable (last l (setup counts homes ∷ map call calls)) 1 0 0 ≡ cases.stableAfter calls
   unfolding last counts homes cases.counts cases.homes cases.stableAfter
   stable-last calls =
-      ap (λ (b : List ℕ). stable (last b (lifts calls)) 1 0 0) set-book
+      ap (λ (b : List ℕ). stable (last b (map call calls)) 1 0 0) set-book
       ∙ sym (stable-by (toModel counts) _ _ (last-model (toModel counts) (fresh homes) (setUp counts homes) calls start) 1 0 0 (lit≤ tt) (lit≤ tt) (lit≤ tt))
 
   pub listing-of-books : Listed l
-  unfolding linesToB lines printed lift lifts cases.listingToB cases.listing cases.listingAnswers
+  unfolding linesToB lines
   listing-of-books = record {
     answers = listed-lines;
     before = stable-last cases.listingToB ∙ caseC-before;

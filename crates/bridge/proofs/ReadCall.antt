@@ -24,14 +24,17 @@ use Rattle.register.proofs.Numbers.{ReadDone, read-done}
 use Rattle.upkeep.proofs.FitKept.{read-fit}
 use Rattle.model.specs.Parts.{Version, State, setShelf, setCrew}
 use Rattle.model.specs.Rules.{settled, settle}
-use Rattle.model.specs.Calls.{read, told, acted, reading, homeShelf, shelfOf}
+use Rattle.paper.specs.Calls.{read, reads}
+use Rattle.model.specs.Calls.{told, acted, reading, homeShelf, shelfOf}
 use Rattle.bridge.specs.View.{countsIn, entriesAt, versionOf, viewBy, view}
-use Rattle.bridge.specs.Paper.{paperRead}
+use Rattle.upkeep.specs.Paper.{paperRead}
 use Rattle.bridge.specs.Bridged.{Bridged}
+use Rattle.upkeep.specs.Requests.{call, numberAt}
+use Rattle.upkeep.proofs.PaperLaws.{number-known, paper-read}
 use Rattle.bridge.proofs.Sound.{sound}
 use Rattle.bridge.proofs.Looks.{crew-here, home-here}
 use Rattle.bridge.proofs.Decoded.{version-entry, version-beyond}
-use Rattle.bridge.proofs.Numbers.{read-number, read-known, paper-read}
+use Rattle.bridge.proofs.Numbers.{read-number}
 use Rattle.bridge.proofs.CrewView.{crew-view, tells-here}
 use Rattle.bridge.proofs.HomeView.{crew-agrees, home-settled, home-below, home-size, home-stored}
 use Rattle.bridge.proofs.Assembly.{counts-same, view-by, Does, bridged}
@@ -99,15 +102,16 @@ module _ (l : List ℕ) (F : fit l ≡ true) (c k : ℕ) where
     unfolding acted reading homeShelf shelfOf r
     tells-same =
         tells-here (countsIn l .depots) (readRecord l c k) (sound l F .small .depots)
-        ∙ ap (told (countsIn l .depots)) (sym stored-here)
-        ∙ ap (λ (d : ℕ). told (countsIn l .depots) (settled (countsIn l .depots) d (view l .crew c) (view l .shelf d (k % countsIn l .shelves)) .store k)) (sym at-home)
+        ∙ ap (λ (v : Version). reads (told (countsIn l .depots) v)) (sym stored-here)
+        ∙ ap (λ (d : ℕ). reads (told (countsIn l .depots) (settled (countsIn l .depots) d (view l .crew c) (view l .shelf d (k % countsIn l .shelves)) .store k))) (sym at-home)
 
   does : readNumber l c k ≡ 0 → Does l (read c k) (readBook l c k)
   does z = record { leaves = leaves (read-done l c k z); counts = counted (read-done l c k z); fits = read-fit l c k F z }
 
   pub read-bridge : (a : ReadAnswer) (l′ : List ℕ) → Read l c k a l′ → Bridged l (read c k) (paperRead (countsIn l .depots) a) l′
+  unfolding numberAt
   read-bridge a l′ t =
       bridged l F (read c k) (readNumber l c k) (read-number l F c k) (readBook l c k) does (paperRead (countsIn l .depots) a) _ l′
-      (ap (paperRead (countsIn l .depots)) (t .answer) ∙ paper-read (countsIn l .depots) _ (read-known l c k))
+      (ap (paperRead (countsIn l .depots)) (t .answer) ∙ paper-read (countsIn l .depots) _ (number-known l (call (read c k))))
       (λ z. tells-same (read-done l c k z))
       (t .book)

@@ -18,14 +18,17 @@ use Rattle.register.proofs.Numbers.{refresh-done}
 use Rattle.upkeep.proofs.FitKept.{refresh-fit}
 use Rattle.model.specs.Parts.{Counts, Shelf, end, lowest, other}
 use Rattle.model.specs.Rules.{lowestSeen}
-use Rattle.model.specs.Calls.{refresh, acted}
+use Rattle.paper.specs.Calls.{refresh}
+use Rattle.model.specs.Calls.{acted}
 use Rattle.model.proofs.Places.{Other, other-intro}
 use Rattle.bridge.specs.View.{countsIn, shelfAt, viewBy, view}
-use Rattle.bridge.specs.Paper.{paper}
+use Rattle.upkeep.specs.Paper.{paper}
 use Rattle.bridge.specs.Bridged.{Bridged}
+use Rattle.upkeep.specs.Requests.{call, numberAt}
+use Rattle.upkeep.proofs.PaperLaws.{number-known}
 use Rattle.bridge.proofs.Sound.{sound}
 use Rattle.bridge.proofs.Looks.{shelf-here}
-use Rattle.bridge.proofs.Numbers.{refresh-number, refresh-known}
+use Rattle.bridge.proofs.Numbers.{refresh-number}
 use Rattle.bridge.proofs.SettleView.{settled-view, settled-below}
 use Rattle.bridge.proofs.Assembly.{counts-same, view-by, Does, bridged-done}
 
@@ -56,6 +59,6 @@ module _ (l : List ℕ) (F : fit l ≡ true) (d s : ℕ) where
       }
 
   pub refresh-bridge : (r : register.Answer) (l′ : List ℕ) → Refresh l d s r l′ → Bridged l (refresh d s) (paper r) l′
-  unfolding acted
+  unfolding numberAt acted
   refresh-bridge r l′ t =
-      bridged-done l F (refresh d s) (refreshNumber l d s) (refresh-number l F d s) (refreshBook l d s) does (refresh-known l d s) refl r l′ (t .answer) (t .book)
+      bridged-done l F (refresh d s) (refreshNumber l d s) (refresh-number l F d s) (refreshBook l d s) does (number-known l (call (refresh d s))) refl r l′ (t .answer) (t .book)

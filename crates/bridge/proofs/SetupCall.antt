@@ -19,11 +19,14 @@ use Rattle.register.specs.Promises.{after, Setup}
 use Rattle.register.specs.Table as table
 use Rattle.register.specs.declared.answer.Answer as register
 use Rattle.upkeep.proofs.FitSetup.{setup-fit}
+use Rattle.paper.specs.Calls.{done, first, answerBy}
+use Rattle.upkeep.specs.Requests as asked
+use Rattle.upkeep.specs.Requests.{numberAt}
 use Rattle.model.specs.Calls as model
 use Rattle.bridge.specs.View.{toModel, countsIn, view}
-use Rattle.bridge.specs.Paper.{paper}
+use Rattle.upkeep.specs.Paper.{paper}
 use Rattle.bridge.specs.Bridged.{BridgedSetup}
-use Rattle.bridge.proofs.Numbers.{Known, known-none, known-pick, paper-number}
+use Rattle.upkeep.proofs.PaperLaws.{number-known, paper-number}
 use Rattle.bridge.proofs.SetupView.{setup-open, setup-counts, setup-view}
 
 one-test : (a b c e q : Bool) → not (a && (b && (c && e))) || not q ≡ not (a && (b && (c && (e && q))))
@@ -38,29 +41,25 @@ passes e = ap not e
 
 module _ (l : List ℕ) (full : length l ≡ bookWords) (n : Counts) (homes : List ℕ) where
   pub setup-number : table.setupNumber l n homes ≡ model.setup (toModel n) homes
-  unfolding table.setupNumber table.first model.setup model.first model.within countsFit between
+  unfolding table.setupNumber first model.setup model.within countsFit between
   setup-number =
       pick-false _ _ (passes (eq-eqb _ _ full))
       ∙ ap (λ (t : Bool). pick t 11 (pick (not (every (n .crews) (λ c. ltb (getD homes c 0) (n .depots)))) 2 0))
       (one-test (between 1 (n .depots) 4) (between 1 (n .shelves) 4) (between 1 (n .bearings) mostBearings) (between 1 (n .crews) 16) (eqb (length homes) (n .crews)))
 
-  known : Known (table.setupNumber l n homes)
-  unfolding table.setupNumber table.first
-  known = known-pick _ 1 refl refl (known-pick _ 11 refl refl (known-pick _ 2 refl refl known-none))
-
   pub setup-bridge : (r : register.Answer) (l′ : List ℕ) → Setup l n homes r l′ → BridgedSetup l n homes (paper r) l′
-  unfolding after
+  unfolding after numberAt
   setup-bridge r l′ t = record {
-    answers = ap paper (t .answer) ∙ paper-number known ∙ ap (λ (k : ℕ). pick (eqb k 0) model.done (model.refused k)) setup-number;
-    leaves = λ z. ap view (done z) ∙ setup-view (setup-open l n homes (setup-number ∙ z));
+    answers = ap paper (t .answer) ∙ paper-number (number-known l (asked.setup n homes)) ∙ ap (λ (k : ℕ). answerBy k done) setup-number;
+    leaves = λ z. ap view (set z) ∙ setup-view (setup-open l n homes (setup-number ∙ z));
     counts = λ z.
         let u = setup-open l n homes (setup-number ∙ z) in
         let w = counts-within n (u .counts) .crews in
         let e = u .number in
-        ap countsIn (done z) ∙ setup-counts n homes (omega arith);
-    fits = λ z. subst (λ (m : List ℕ). Rattle.fit.specs.Fit.fit m ≡ true) (sym (done z)) (setup-fit l n homes (setup-number ∙ z));
+        ap countsIn (set z) ∙ setup-counts n homes (omega arith);
+    fits = λ z. subst (λ (m : List ℕ). Rattle.fit.specs.Fit.fit m ≡ true) (sym (set z)) (setup-fit l n homes (setup-number ∙ z));
     stays = λ z. t .book ∙ pick-false _ _ (ne-eqb _ 0 (λ e. z (sym setup-number ∙ e)));
   }
     where
-      done : model.setup (toModel n) homes ≡ 0 → l′ ≡ setUp n homes
-      done z = t .book ∙ pick-true _ _ (eq-eqb _ 0 (setup-number ∙ z))
+      set : model.setup (toModel n) homes ≡ 0 → l′ ≡ setUp n homes
+      set z = t .book ∙ pick-true _ _ (eq-eqb _ 0 (setup-number ∙ z))

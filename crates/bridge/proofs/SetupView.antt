@@ -24,6 +24,7 @@ use Rattle.shelf.proofs.FrameLaws.{length-part-le}
 use Rattle.register.specs.Table as table
 use Rattle.register.specs.Calls.{setUp}
 use Rattle.model.specs.Parts.{Counts, other, unwritten, emptyShelf, fresh}
+use Rattle.paper.specs.Calls.{first}
 use Rattle.model.specs.Calls as calls
 use Rattle.bridge.specs.View.{toModel, countsIn, entriesAt, versionOf, listed, takenOn, untakenOn, storeAt, shelfAt, viewBy, view}
 use Rattle.bridge.proofs.Basics.{first-zero, or-none, pick-then, pick-same, listed-none, shelf-path, state-path}
@@ -36,7 +37,7 @@ pub record SetUp (l : List ℕ) (n : book.Counts) (homes : List ℕ) : Type 0 wh
   pub below : every (n .crews) (λ c. ltb (getD homes c 0) (n .depots)) ≡ true
 
 pub setup-open : (l : List ℕ) (n : book.Counts) (homes : List ℕ) → table.setupNumber l n homes ≡ 0 → SetUp l n homes
-unfolding table.setupNumber table.first
+unfolding table.setupNumber first
 setup-open l n homes h =
     let a = first-zero _ 0 _ h in
     let b = first-zero _ 10 _ (a .1) in
@@ -46,7 +47,7 @@ setup-open l n homes h =
 
 -- then the model's setup is done too
 pub setup-model : {l : List ℕ} {n : book.Counts} {homes : List ℕ} → SetUp l n homes → calls.setup (toModel n) homes ≡ 0
-unfolding calls.setup calls.first calls.within countsFit between pick
+unfolding calls.setup first calls.within countsFit between pick
 setup-model {l} {n} {homes} u = ap₂ (λ (a b : Bool). pick (not a) 11 (pick (not b) 2 0)) tests (u .below)
   where
     tests : (calls.within (n .depots) 4 && (calls.within (n .shelves) 4 && (calls.within (n .bearings) mostBearings && (calls.within (n .crews) 16 && eqb (length homes) (n .crews))))) ≡ true

@@ -14,14 +14,17 @@ use Rattle.register.proofs.Numbers.{take-done}
 use Rattle.upkeep.proofs.FitKept.{take-fit}
 use Rattle.model.specs.Parts.{Shelf, setShelf}
 use Rattle.model.specs.Rules.{taking}
-use Rattle.model.specs.Calls.{take, acted}
+use Rattle.paper.specs.Calls.{take}
+use Rattle.model.specs.Calls.{acted}
 use Rattle.model.proofs.Places.{Other}
 use Rattle.bridge.specs.View.{countsIn, view}
-use Rattle.bridge.specs.Paper.{paper}
+use Rattle.upkeep.specs.Paper.{paper}
 use Rattle.bridge.specs.Bridged.{Bridged}
+use Rattle.upkeep.specs.Requests.{call, numberAt}
+use Rattle.upkeep.proofs.PaperLaws.{number-known}
 use Rattle.bridge.proofs.Sound.{sound}
 use Rattle.bridge.proofs.Looks.{shelf-here}
-use Rattle.bridge.proofs.Numbers.{take-number, take-known}
+use Rattle.bridge.proofs.Numbers.{take-number}
 use Rattle.bridge.proofs.TakeView.{took-view, took-below}
 use Rattle.bridge.proofs.Assembly.{counts-same, view-by, Does, bridged-done}
 
@@ -43,6 +46,6 @@ module _ (l : List ℕ) (F : fit l ≡ true) (d s from : ℕ) where
       }
 
   pub take-bridge : (r : register.Answer) (l′ : List ℕ) → Take l d s from r l′ → Bridged l (take d s from) (paper r) l′
-  unfolding acted
+  unfolding numberAt acted
   take-bridge r l′ t =
-      bridged-done l F (take d s from) (takeNumber l d s from) (take-number l F d s from) (takeBook l d s from) does (take-known l d s from) refl r l′ (t .answer) (t .book)
+      bridged-done l F (take d s from) (takeNumber l d s from) (take-number l F d s from) (takeBook l d s from) does (number-known l (call (take d s from))) refl r l′ (t .answer) (t .book)

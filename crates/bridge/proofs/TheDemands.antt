@@ -1,20 +1,44 @@
 -- The demands of books, all together: nothing is assumed but that a setup was done.
 -- Assumes nothing.
 use Prim.Native.Nat.{ℕ}
-use mathlib.Core.Path.{_≡_}
-use mathlib.Core.List.{List}
+use mathlib.Core.Path.{_≡_, _∙_, ap, ap₂}
+use mathlib.Core.List.{List, [], _∷_, _++_}
 use Rattle.book.specs.declared.parts.Counts.{Counts}
 use Rattle.register.specs.Table.{setupNumber}
-use Rattle.bridge.specs.Demands.{Demands}
+use Rattle.paper.specs.Calls.{Answer}
+use Rattle.upkeep.specs.Requests.{Request, replyTo, bookAfter}
+use Rattle.upkeep.specs.Paper.{onPaper}
+use Rattle.line.specs.Reading.{Reading}
+use Rattle.events.specs.Answering as events
+use Rattle.events.specs.Answering.{lineFeed, printed, eventSays, eventBook, readingSays, readingBook, answerTo}
+use Rattle.model.specs.Parts as model
+use Rattle.model.specs.System.{after}
+use Rattle.model.proofs.TheDemands as met
+use Rattle.model.proofs.Transfer as transfer
+use Rattle.bridge.specs.View.{toModel}
+use Rattle.bridge.specs.Demands.{bookOf, DeskAsModel, Demands}
+use Rattle.bridge.proofs.SetupView.{setup-open, setup-model}
+use Rattle.bridge.proofs.Agrees.{sound-by}
+use Rattle.bridge.proofs.Followed.{agrees-start, book-follows, followed}
 use Rattle.bridge.proofs.BookDemand1.{book-demand1}
-use Rattle.bridge.proofs.BookDemand2.{book-demand2}
-use Rattle.bridge.proofs.BookDemand3.{book-demand3}
-use Rattle.bridge.proofs.BookLimits.{book-limits}
+
+-- the desk's lines
+desk-as-model : (l : List ℕ) (n : Counts) (homes : List ℕ) → setupNumber l n homes ≡ 0 → DeskAsModel n homes
+unfolding answerTo events.bookAfter readingSays readingBook eventSays eventBook after
+desk-as-model l n homes done = record {
+  says = λ h line e ns q r a.
+      ap (λ (x : Reading). readingSays (bookOf n homes h) x ++ (lineFeed ∷ [])) r
+      ∙ ap₂ (λ (D : ℕ) (x : Request). printed (onPaper D (replyTo (bookOf n homes h) x)) ++ (lineFeed ∷ [])) (ap (λ (π : model.Counts). π .depots) (followed l n homes done h .counts)) a
+      ∙ ap (λ (x : Answer). printed x ++ (lineFeed ∷ [])) (transfer.alike (book-follows l n homes done) h .answer q);
+  leaves = λ h line e ns q r a. ap (readingBook (bookOf n homes h)) r ∙ ap (bookAfter (bookOf n homes h)) a;
+}
 
 pub the-demands : (l : List ℕ) (n : Counts) (homes : List ℕ) → setupNumber l n homes ≡ 0 → Demands n homes
-the-demands l n homes done = record {
-  first = book-demand1 l n homes done;
-  second = book-demand2 l n homes done;
-  third = book-demand3 l n homes done;
-  besides = book-limits l n homes done;
-}
+the-demands l n homes done =
+    let follows = book-follows l n homes done in
+    record {
+      first = book-demand1 l n homes done;
+      as-model = record { answers = λ h q. transfer.alike follows h .answer q; leaves = λ h. followed l n homes done h .views };
+      desk = desk-as-model l n homes done;
+      others = transfer.demands-from follows (sound-by (toModel n) _ _ (agrees-start l n homes done) .small .shelf) (met.the-demands (toModel n) homes (setup-model (setup-open l n homes done)));
+    }

@@ -18,13 +18,16 @@ use Rattle.register.proofs.Numbers.{tick-done}
 use Rattle.upkeep.proofs.FitKept.{tick-fit}
 use Rattle.model.specs.Parts.{heartbeat, Shelf}
 use Rattle.model.specs.Rules.{send}
-use Rattle.model.specs.Calls.{tick, acted}
+use Rattle.paper.specs.Calls.{tick}
+use Rattle.model.specs.Calls.{acted}
 use Rattle.bridge.specs.View.{countsIn, messageOf, shelfAt, view}
-use Rattle.bridge.specs.Paper.{paper}
+use Rattle.upkeep.specs.Paper.{paper}
 use Rattle.bridge.specs.Bridged.{Bridged}
+use Rattle.upkeep.specs.Requests.{call, numberAt}
+use Rattle.upkeep.proofs.PaperLaws.{number-known}
 use Rattle.bridge.proofs.Sound.{sound}
 use Rattle.bridge.proofs.Looks.{shelf-here, roomy-open}
-use Rattle.bridge.proofs.Numbers.{tick-number, tick-known}
+use Rattle.bridge.proofs.Numbers.{tick-number}
 use Rattle.bridge.proofs.SendView.{sent-view, sent-below}
 use Rattle.bridge.proofs.Assembly.{counts-same, view-by, Does, bridged-done}
 
@@ -47,5 +50,5 @@ module _ (l : List ℕ) (F : fit l ≡ true) (d s : ℕ) where
       }
 
   pub tick-bridge : (r : register.Answer) (l′ : List ℕ) → Tick l d s r l′ → Bridged l (tick d s) (paper r) l′
-  unfolding acted
-  tick-bridge r l′ t = bridged-done l F (tick d s) (tickNumber l d s) (tick-number l F d s) (tickBook l d s) does (tick-known l d s) refl r l′ (t .answer) (t .book)
+  unfolding numberAt acted
+  tick-bridge r l′ t = bridged-done l F (tick d s) (tickNumber l d s) (tick-number l F d s) (tickBook l d s) does (number-known l (call (tick d s))) refl r l′ (t .answer) (t .book)

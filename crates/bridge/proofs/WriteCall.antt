@@ -33,15 +33,18 @@ use Rattle.register.proofs.FitReady.{out-stays}
 use Rattle.register.proofs.MadeLaws.{length-made, made-record-of}
 use Rattle.model.specs.Parts.{Version, Write, copy, Shelf, State, put, rank, setCrew}
 use Rattle.model.specs.Rules.{shown, settled, settle, keep, send}
-use Rattle.model.specs.Calls.{write, acted, made, answered, homeShelf, shelfOf, current, superseded}
+use Rattle.paper.specs.Calls.{write, current, superseded}
+use Rattle.model.specs.Calls.{acted, made, answered, homeShelf, shelfOf}
 use Rattle.bridge.specs.View.{countsIn, entriesAt, writeOf, shelfAt, viewBy, view}
-use Rattle.bridge.specs.Paper.{paperWrite}
+use Rattle.upkeep.specs.Paper.{paperWrite}
 use Rattle.bridge.specs.Bridged.{Bridged}
 use Rattle.bridge.proofs.Basics.{pick-ap}
+use Rattle.upkeep.specs.Requests.{call, numberAt}
+use Rattle.upkeep.proofs.PaperLaws.{number-known, paper-write}
 use Rattle.bridge.proofs.Sound.{sound, sound-whole}
 use Rattle.bridge.proofs.Looks.{shelf-here, home-here, roomy-open}
 use Rattle.bridge.proofs.Decoded.{version-above}
-use Rattle.bridge.proofs.Numbers.{write-number, write-known, paper-write, home-clock}
+use Rattle.bridge.proofs.Numbers.{write-number, home-clock}
 use Rattle.bridge.proofs.SendView.{sent-view, sent-below}
 use Rattle.bridge.proofs.CrewView.{crew-view}
 use Rattle.bridge.proofs.HomeView.{kd, ks, crew-agrees, home-settled, home-below, home-size, home-shelf, home-stored}
@@ -49,9 +52,9 @@ use Rattle.bridge.proofs.MadeView.{newVector, new-own, new-other, new-b
 use Rattle.bridge.proofs.Assembly.{counts-same, view-by, Does, bridged}
 
 module _ (l : List ℕ) (F : fit l ≡ true) (c k value : ℕ) where
-  module _ (z : writeNumber l c k ≡ 0) where
+  module _ (z : writeNumber l c k value ≡ 0) where
     o : WriteDone l c k
-    o = write-done l c k z
+    o = write-done l c k value z
 
     abbrev d : ℕ
     d = home l c
@@ -223,11 +226,12 @@ module _ (l : List ℕ) (F : fit l ≡ true) (c k value : ℕ) where
         pick (above (countsIn l .depots) (rank v) (rank (settled (countsIn l .depots) e (view l .crew c) (view l .shelf e s) .store k))) (current (v .vector e)) (superseded (v .vector e)))
         at-home (home-clock l F c k (o .crew)))
 
-  does : writeNumber l c k ≡ 0 → Does l (write c k value) (writeBook l c k value)
+  does : writeNumber l c k value ≡ 0 → Does l (write c k value) (writeBook l c k value)
   does z = record { leaves = leaves z; counts = counted z; fits = write-fit l c k value F z }
 
   pub write-bridge : (a : WriteAnswer) (l′ : List ℕ) → promises.Write l c k value a l′ → Bridged l (write c k value) (paperWrite a) l′
+  unfolding numberAt
   write-bridge a l′ t =
-      bridged l F (write c k value) (writeNumber l c k) (write-number l F c k value) (writeBook l c k value) does (paperWrite a) _ l′
-      (ap paperWrite (t .answer) ∙ paper-write _ (write-known l c k))
+      bridged l F (write c k value) (writeNumber l c k value) (write-number l F c k value) (writeBook l c k value) does (paperWrite a) _ l′
+      (ap paperWrite (t .answer) ∙ paper-write _ (number-known l (call (write c k value))))
       tells (t .book)

@@ -5,9 +5,7 @@ use Prim.Native.Nat.{ℕ}
 use mathlib.Core.Path.{_≡_}
 use mathlib.Core.Bool.{true}
 use mathlib.Core.List.{List}
-use lib.Dec.{eqb}
 use lib.ListN.{length}
-use Rattle.order.specs.Loops.{pick}
 use Rattle.book.specs.declared.parts.Counts.{Counts}
 use Rattle.book.specs.Layout.{bookWords}
 use Rattle.fit.specs.Fit.{fit}
@@ -16,9 +14,10 @@ use Rattle.register.specs.declared.answer.Answer as register
 use Rattle.register.specs.declared.answer.ReadAnswer.{ReadAnswer}
 use Rattle.register.specs.declared.answer.WriteAnswer.{WriteAnswer}
 use Rattle.model.specs.Parts.{fresh}
-use Rattle.model.specs.Calls.{Call, read, write, tick, take, refresh, Answer, done, refused, setup, step}
+use Rattle.paper.specs.Calls.{Call, read, write, tick, take, refresh, Answer, done, answerBy}
+use Rattle.model.specs.Calls.{setup, step}
 use Rattle.bridge.specs.View.{toModel, countsIn, view}
-use Rattle.bridge.specs.Paper.{paper, paperRead, paperWrite}
+use Rattle.upkeep.specs.Paper.{paper, paperRead, paperWrite}
 
 pub record Bridged (l : List ℕ) (q : Call) (answer : Answer) (l′ : List ℕ) : Type 0 where
   pub answers : answer ≡ step (countsIn l) (view l) q .answer
@@ -29,7 +28,7 @@ pub record Bridged (l : List ℕ) (q : Call) (answer : Answer) (l′ : List ℕ)
 -- and of a setup, asked of any book l of the right length: it answers as the model does, and where it is done it leaves a book l′ that is fit, has
 -- the counts asked for, and whose view is the fresh state
 pub record BridgedSetup (l : List ℕ) (n : Counts) (homes : List ℕ) (answer : Answer) (l′ : List ℕ) : Type 0 where
-  pub answers : answer ≡ pick (eqb (setup (toModel n) homes) 0) done (refused (setup (toModel n) homes))
+  pub answers : answer ≡ answerBy (setup (toModel n) homes) done
   pub leaves : setup (toModel n) homes ≡ 0 → view l′ ≡ fresh homes
   pub counts : setup (toModel n) homes ≡ 0 → countsIn l′ ≡ toModel n
   pub fits : setup (toModel n) homes ≡ 0 → fit l′ ≡ true

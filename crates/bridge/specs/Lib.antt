@@ -1,6 +1,6 @@
 pub mod View
 pub mod Histories
-pub mod Paper
 pub mod Bridged
+pub mod Systems
 pub mod Demands
 pub mod Listing

@@ -1,48 +1,44 @@
--- The number of an answer is the number of the call's promise: every number of a table is at most 11, and each refusal has its own.
+-- The number of an answer is the number of the request's promise.
 -- Assumes nothing.
-use Prim.Native.Nat.{ℕ, zero, suc, _≤_}
-use mathlib.Core.Path.{_≡_, refl, sym, _∙_, ap}
+use Prim.Native.Nat.{ℕ}
+use mathlib.Core.Path.{_≡_, sym, _∙_, ap}
+use mathlib.Core.Logic.{⊎-elim}
+use mathlib.Core.Bool.{true, false}
 use mathlib.Core.List.{List}
-use Rattle.order.proofs.BoolLaws.{pick-true, pick-false}
+use lib.Dec.{eqb}
+use borrow.Author.Tests.{eqb-true}
+use Rattle.order.proofs.BoolLaws.{decided, pick-true, pick-false}
+use Rattle.paper.specs.Calls.{tick, take, refresh, numberIn, answerBy}
 use Rattle.book.specs.declared.parts.Counts.{Counts}
 use Rattle.register.specs.declared.answer.Answer.{Answer}
-use Rattle.register.specs.Answers.{numberOf, answerOf}
-use Rattle.register.specs.Table.{setupNumber, readNumber, writeNumber, tickNumber, takeNumber, refreshNumber}
-use Rattle.upkeep.proofs.History.{numberAt, setup, read, write, tick, take, refresh}
-use Rattle.register.proofs.CallLaws.{not-done}
-use Rattle.upkeep.proofs.NeverBadAnswer.{number-under, refusal-number}
-use Rattle.events.specs.Numbers.{answerNumber}
-use native.Mathlib.Omega.{arith}
+use Rattle.register.specs.Answers.{answerOf}
+use Rattle.register.specs.Table.{setupNumber, tickNumber, takeNumber, refreshNumber}
+use Rattle.upkeep.specs.Requests.{setup, call, numberAt}
+use Rattle.upkeep.specs.Paper.{paper}
+use Rattle.upkeep.proofs.PaperLaws.{Known, number-known, paper-number}
 
-pub answer-number : (k : ℕ) → k ≤ 11 → answerNumber (answerOf k) ≡ k
-unfolding answerOf
-answer-number zero h = ap answerNumber (pick-true _ _ refl)
-answer-number (suc k) h = ap answerNumber (pick-false _ _ (not-done (suc k) refl (omega arith))) ∙ refusal-number k h
-
-pub told : {a : Answer} {n : ℕ} (k : ℕ) → k ≤ 11 → n ≡ answerNumber a → a ≡ answerOf k → n ≡ k
-told k h p q = p ∙ ap answerNumber q ∙ answer-number k h
+pub told : {a : Answer} {n k : ℕ} → Known k → n ≡ numberIn (paper a) → a ≡ answerOf k → n ≡ k
+unfolding answerBy numberIn
+told {a} {n} {k} known p q =
+    p ∙ ap (λ (x : Answer). numberIn (paper x)) q ∙ ap numberIn (paper-number known)
+    ∙ ⊎-elim
+    (λ (z : eqb k 0 ≡ true). ap numberIn (pick-true _ _ z) ∙ sym (eqb-true k 0 z))
+    (λ (z : eqb k 0 ≡ false). ap numberIn (pick-false _ _ z))
+    (decided (eqb k 0))
 
 module _ (l : List ℕ) where
-  pub setup-under : (n : Counts) (homes : List ℕ) → setupNumber l n homes ≤ 11
+  pub setup-known : (n : Counts) (homes : List ℕ) → Known (setupNumber l n homes)
   unfolding numberAt
-  setup-under n homes = number-under (setup n homes) l
+  setup-known n homes = number-known l (setup n homes)
 
-  pub read-under : (c k : ℕ) → readNumber l c k ≤ 11
+  pub tick-known : (d s : ℕ) → Known (tickNumber l d s)
   unfolding numberAt
-  read-under c k = number-under (read c k) l
+  tick-known d s = number-known l (call (tick d s))
 
-  pub write-under : (c k : ℕ) → writeNumber l c k ≤ 11
+  pub take-known : (d s from : ℕ) → Known (takeNumber l d s from)
   unfolding numberAt
-  write-under c k = number-under (write c k 0) l
+  take-known d s from = number-known l (call (take d s from))
 
-  pub tick-under : (d s : ℕ) → tickNumber l d s ≤ 11
+  pub refresh-known : (d s : ℕ) → Known (refreshNumber l d s)
   unfolding numberAt
-  tick-under d s = number-under (tick d s) l
-
-  pub take-under : (d s from : ℕ) → takeNumber l d s from ≤ 11
-  unfolding numberAt
-  take-under d s from = number-under (take d s from) l
-
-  pub refresh-under : (d s : ℕ) → refreshNumber l d s ≤ 11
-  unfolding numberAt
-  refresh-under d s = number-under (refresh d s) l
+  refresh-known d s = number-known l (call (refresh d s))

@@ -1,24 +1,28 @@
 -- What is said of each answer, from the promise of its call, and that no answer is longer than its room.
 -- Assumes nothing.
-use Prim.Native.Nat.{ℕ, zero, suc, _+_, _-_, _≤_}
+use Prim.Native.Nat.{ℕ, _+_, _-_, _≤_}
 use native.Mathlib.Omega.{arith}
 use mathlib.Core.Path.{_≡_, refl, sym, _∙_, ap, subst}
+use mathlib.Core.Logic.{⊎-elim}
 use mathlib.Core.List.{List, [], _∷_}
 use mathlib.Core.Bool.{Bool, true, false}
 use lib.Dec.{eqb}
 use lib.ListN.{length, getD, take, drop, replicate, length-append, length-take, length-drop}
 use lib.Seq.{take-length, length-sets}
 use Rattle.order.specs.Loops.{pick}
-use Rattle.order.specs.Vector.{Vec, zeros}
-use Rattle.order.specs.Record.{valueOf, vectorOf}
-use Rattle.order.proofs.BoolLaws.{pick-true, pick-false}
+use borrow.Author.Tests.{eqb-true}
+use Rattle.order.proofs.BoolLaws.{decided, pick-false}
 use Rattle.register.specs.declared.answer.Answer.{Answer}
 use Rattle.register.specs.declared.answer.Finding.{Finding}
 use Rattle.register.specs.declared.answer.ReadAnswer.{ReadAnswer}
 use Rattle.register.specs.declared.answer.WriteAnswer.{WriteAnswer}
-use Rattle.register.specs.Answers.{numberOf, refusalOf, answerOf, cut, tells, readRefused, writes, writeRefused}
-use Rattle.register.proofs.CallLaws.{not-done}
-use Rattle.upkeep.proofs.NeverBadAnswer.{refusal-number}
+use Rattle.paper.specs.Calls.{read, numberIn}
+use Rattle.book.specs.Layout.{countsOf}
+use Rattle.register.specs.Answers.{cut, tells, readRefused}
+use Rattle.register.specs.Table.{readNumber}
+use Rattle.register.specs.Calls.{readRecord}
+use Rattle.upkeep.specs.Requests.{call, replyTo}
+use Rattle.upkeep.specs.Paper.{paper, paperFound, paperRead, paperWrite, onPaper}
 use Rattle.line.specs.Answers.{numberAnswer, valueAnswer, unwrittenAnswer, stampAnswer}
 use Rattle.line.specs.Grammar.{least, Says}
 use Rattle.line.specs.Reading.{Reading, bad, good, reading, lineOf}
@@ -29,10 +33,7 @@ use Rattle.line.specs.declared.reader.Said.the-variants.{BadLine, Names}
 use Rattle.line.specs.declared.reader.Line.{Line}
 use Rattle.line.proofs.Theorems.{read-says, most-fits, answer-says}
 use Rattle.line.proofs.PrintLaws.{room-enough, wrote-length, decimal-length, value-answer-length, unwritten-answer-length, stamp-answer-length}
-use Rattle.events.specs.Numbers.{answerNumber, findingSays, writtenSays}
-use Rattle.register.specs.Calls.{newStamp, isCurrent}
-use Rattle.events.specs.Answering.{entries, foundSays, saysOr, eventSays, eventBook, readingSays, readingBook, answerTo}
-use Rattle.events.proofs.NumberLaws.{told}
+use Rattle.events.specs.Answering.{requestOf, printed, eventSays, eventBook, readingSays, readingBook, answerTo}
 
 -- ---- room
 
@@ -50,47 +51,32 @@ unwritten-room d vector k h =
 pub stamp-room : {o : List ℕ} {at : ℕ} (stamp : ℕ) (b : Bool) → at + 64 ≤ length o → Room o at (stampAnswer stamp b)
 stamp-room stamp b h = room-enough _ 63 (let l = stamp-answer-length stamp b in omega arith) (omega arith)
 
--- ---- what is said, by the number of the call
+-- ---- what is said, by the promise of the request
 
--- a setup, a tick, a take, a refresh
-pub number-says : {a : Answer} (k : ℕ) → k ≤ 11 → a ≡ answerOf k → numberAnswer (answerNumber a) ≡ numberAnswer k
-number-says k h e = ap numberAnswer (told k h refl e)
+-- the number of an answer that is done or refused is all that is said of it
+pub plain-says : (a : Answer) → numberAnswer (numberIn (paper a)) ≡ printed (paper a)
+unfolding paper numberIn printed
+plain-says Answer.Done = refl
+plain-says (Answer.Refused r) = refl
 
--- a read
-found-says : (b : Bool) (v : ℕ) (es : List ℕ) → findingSays (pick b Finding.Unwritten (Finding.Value v)) es ≡ pick b (unwrittenAnswer es) (valueAnswer v es)
-unfolding pick
-found-says true v es = refl
-found-says false v es = refl
+-- of a read that is refused no entry is said, so only where it is done the depots matter
+pub found-says :
+    (l : List ℕ) (c k d : ℕ) (a : ReadAnswer) → (readNumber l c k ≡ 0 → d ≡ countsOf l .depots) →
+    a ≡ pick (eqb (readNumber l c k) 0) (tells (countsOf l .depots) (readRecord l c k)) (readRefused (readNumber l c k)) →
+    printed (paperFound (a .finding) (take d (a .vector))) ≡ printed (onPaper (countsOf l .depots) (replyTo l (call (read c k))))
+unfolding replyTo onPaper readRefused paperRead paperFound
+found-says l c k d a same e =
+    ap said e
+    ∙ ⊎-elim
+    (λ (z : eqb (readNumber l c k) 0 ≡ true). ap (λ (m : ℕ). printed (paperFound (it .finding) (take m (it .vector)))) (same (eqb-true (readNumber l c k) 0 z)))
+    (λ (z : eqb (readNumber l c k) 0 ≡ false). ap said (pick-false _ _ z) ∙ sym (ap (λ (x : ReadAnswer). printed (paperRead (countsOf l .depots) x)) (pick-false _ _ z)))
+    (decided (eqb (readNumber l c k) 0))
+  where
+    said : ReadAnswer → List ℕ
+    said x = printed (paperFound (x .finding) (take d (x .vector)))
 
-pub found-by-number :
-    (k n d : ℕ) (r : List ℕ) (a : ReadAnswer) → k ≤ 11 → (k ≡ 0 → d ≡ n) → a ≡ pick (eqb k 0) (tells n r) (readRefused k) →
-    findingSays (a .finding) (take d (a .vector)) ≡ saysOr k (foundSays n r)
-unfolding saysOr foundSays entries tells readRefused
-found-by-number zero n d r a h w e =
-    ap (λ (x : ReadAnswer). findingSays (x .finding) (take d (x .vector))) (e ∙ pick-true _ _ refl)
-    ∙ ap (λ (m : ℕ). findingSays (tells n r .finding) (take m (tells n r .vector))) (w refl)
-    ∙ found-says _ _ _
-    ∙ sym (pick-true _ _ refl)
-found-by-number (suc k) n d r a h w e =
-    let z = not-done (suc k) refl (omega arith) in
-    ap (λ (x : ReadAnswer). findingSays (x .finding) (take d (x .vector))) (e ∙ pick-false _ _ z)
-    ∙ ap numberAnswer (refusal-number k h)
-    ∙ sym (pick-false _ _ z)
-
--- a write
-written-says : (stamp : ℕ) (b : Bool) → writtenSays (writes stamp b) ≡ stampAnswer stamp b
-unfolding writes pick
-written-says stamp true = refl
-written-says stamp false = refl
-
-pub written-by-number :
-    (k stamp : ℕ) (b : Bool) (a : WriteAnswer) → k ≤ 11 → a ≡ pick (eqb k 0) (writes stamp b) (writeRefused k) →
-    writtenSays a ≡ saysOr k (stampAnswer stamp b)
-unfolding saysOr writeRefused
-written-by-number zero stamp b a h e = ap writtenSays (e ∙ pick-true _ _ refl) ∙ written-says stamp b ∙ sym (pick-true _ _ refl)
-written-by-number (suc k) stamp b a h e =
-    let z = not-done (suc k) refl (omega arith) in
-    ap writtenSays (e ∙ pick-false _ _ z) ∙ ap numberAnswer (refusal-number k h) ∙ sym (pick-false _ _ z)
+    it : ReadAnswer
+    it = pick (eqb (readNumber l c k) 0) (tells (countsOf l .depots) (readRecord l c k)) (readRefused (readNumber l c k))
 
 -- ---- the numbers of a line
 
@@ -148,38 +134,43 @@ answered-reading l {l′} {o} {o′} {at} {r} p w = subst (λ (x : Reading). (l�
 
 -- ---- no answer is longer than its room
 
-entries-length : (n : ℕ) (v : Vec) → length (entries n v) ≤ 4
-unfolding entries cut
-entries-length n v = rw (length-take n (cut n v)) (omega arith)
-
-pick-length : (b : Bool) (xs ys : List ℕ) (n : ℕ) → length xs ≤ n → length ys ≤ n → length (pick b xs ys) ≤ n
-unfolding pick
-pick-length true xs ys n h k = h
-pick-length false xs ys n h k = k
-
-found-length : (n : ℕ) (r : List ℕ) → length (foundSays n r) ≤ 63
-unfolding foundSays
-found-length n r =
-    let e = entries-length n (vectorOf r) in
-    let u = unwritten-answer-length (entries n (vectorOf r)) in
-    let w = value-answer-length (valueOf r) (entries n (vectorOf r)) in
-    pick-length _ _ _ 63 (omega arith) (omega arith)
-
 number-length : (n : ℕ) → length (numberAnswer n) ≤ 63
 number-length n = let h = decimal-length n in omega arith
 
-or-length : (n : ℕ) (xs : List ℕ) → length xs ≤ 63 → length (saysOr n xs) ≤ 63
-unfolding saysOr
-or-length n xs h = pick-length _ _ _ 63 h (number-length n)
+plain-length : (a : Answer) → length (printed (paper a)) ≤ 63
+unfolding paper printed
+plain-length Answer.Done = number-length 0
+plain-length (Answer.Refused r) = number-length _
+
+-- with at most four entries
+found-length : (f : Finding) (entries : List ℕ) → length entries ≤ 4 → length (printed (paperFound f entries)) ≤ 63
+unfolding paperFound printed
+found-length (Finding.Value v) entries h = let w = value-answer-length v entries in omega arith
+found-length Finding.Unwritten entries h = let w = unwritten-answer-length entries in omega arith
+found-length (Finding.Refused r) entries h = number-length _
+
+written-length : (a : WriteAnswer) → length (printed (paperWrite a)) ≤ 63
+unfolding paperWrite printed
+written-length (WriteAnswer.Current stamp) = let h = stamp-answer-length stamp true in omega arith
+written-length (WriteAnswer.Superseded stamp) = let h = stamp-answer-length stamp false in omega arith
+written-length (WriteAnswer.Refused r) = number-length _
+
+four-entries : (b : Bool) (k n : ℕ) (r : List ℕ) → length (pick b (tells n r) (readRefused k) .vector) ≤ 4
+unfolding pick tells readRefused cut
+four-entries true k n r = omega arith
+four-entries false k n r = omega arith
 
 event-length : (l : List ℕ) (e : Event) (ns : List ℕ) → length (eventSays l e ns) ≤ 63
-unfolding eventSays
-event-length l Setup ns = number-length _
-event-length l Read ns = or-length _ _ (found-length _ _)
-event-length l Write ns = or-length _ _ (let h = stamp-answer-length (newStamp l (getD ns 0 0) (getD ns 1 0)) (isCurrent l (getD ns 0 0) (getD ns 1 0) (getD ns 2 0)) in omega arith)
-event-length l Tick ns = number-length _
-event-length l Take ns = number-length _
-event-length l Refresh ns = number-length _
+unfolding eventSays requestOf replyTo onPaper paperRead
+event-length l Setup ns = plain-length _
+event-length l Read ns =
+    let b = eqb (readNumber l (getD ns 0 0) (getD ns 1 0)) 0 in
+    let h = four-entries b (readNumber l (getD ns 0 0) (getD ns 1 0)) (countsOf l .depots) (readRecord l (getD ns 0 0) (getD ns 1 0)) in
+    found-length _ _ (rw (length-take (countsOf l .depots) _) (omega arith))
+event-length l Write ns = written-length _
+event-length l Tick ns = plain-length _
+event-length l Take ns = plain-length _
+event-length l Refresh ns = plain-length _
 
 pub reading-length : (l : List ℕ) (r : Reading) → length (readingSays l r) ≤ 63
 unfolding readingSays

@@ -2,17 +2,14 @@
 -- Assumes nothing.
 use Prim.Native.Nat.{ℕ}
 use mathlib.Core.List.{List, [], _∷_, _++_}
-use lib.Dec.{eqb}
-use lib.ListN.{getD, take, drop}
-use Rattle.order.specs.Loops.{pick}
-use Rattle.order.specs.Vector.{Vec, zeros}
-use Rattle.order.specs.Record.{valueOf, vectorOf}
+use mathlib.Core.Bool.{true, false}
+use lib.ListN.{getD, drop}
+use Rattle.paper.specs.Calls.{read, write, tick, take, refresh, Answer, refused, done, reads, read-value, read-unwritten, current, superseded}
 use Rattle.book.specs.declared.parts.Counts.{Counts}
 use Rattle.book.specs.Layout.{countsOf}
-use Rattle.register.specs.Answers.{cut}
-use Rattle.register.specs.Calls.{setUp, readRecord, readBook, newStamp, isCurrent, writeBook, tickBook, takeBook, refreshBook}
-use Rattle.register.specs.Promises.{after}
-use Rattle.register.specs.Table.{setupNumber, readNumber, writeNumber, tickNumber, takeNumber, refreshNumber}
+use Rattle.upkeep.specs.Requests as requests
+use Rattle.upkeep.specs.Requests.{Request, setup, call, replyTo}
+use Rattle.upkeep.specs.Paper.{onPaper}
 use Rattle.line.specs.declared.reader.Event.{Event}
 use Rattle.line.specs.declared.reader.Event.the-variants.{Setup, Read, Write, Tick, Take, Refresh}
 use Rattle.line.specs.Reading.{Reading, bad, good, reading}
@@ -33,37 +30,30 @@ countsIn ns = record { depots = getD ns 0 0; shelves = getD ns 1 0; bearings = g
 abbrev pub homesIn : List ℕ → List ℕ
 homesIn ns = drop 4 ns
 
--- the first n entries of a vector, n at most four
-unfoldable pub entries : ℕ → Vec → List ℕ
-entries n v = take n (cut n v)
+-- what an event with its numbers asks
+unfoldable pub requestOf : Event → List ℕ → Request
+requestOf Setup ns = setup (countsIn ns) (homesIn ns)
+requestOf Read ns = call (read (getD ns 0 0) (getD ns 1 0))
+requestOf Write ns = call (write (getD ns 0 0) (getD ns 1 0) (getD ns 2 0))
+requestOf Tick ns = call (tick (getD ns 0 0) (getD ns 1 0))
+requestOf Take ns = call (take (getD ns 0 0) (getD ns 1 0) (getD ns 2 0))
+requestOf Refresh ns = call (refresh (getD ns 0 0) (getD ns 1 0))
 
--- what is said of the stored record r, with n depots: after the 0 the value or -, then n entries
-unfoldable pub foundSays : ℕ → List ℕ → List ℕ
-foundSays n r = pick (zeros n (vectorOf r)) (unwrittenAnswer (entries n (vectorOf r))) (valueAnswer (valueOf r) (entries n (vectorOf r)))
+-- the bytes of an answer: its number; after a read's 0 the value or -, then the entries; after a write's 0 the stamp, then C or S
+unfoldable pub printed : Answer → List ℕ
+printed (refused n) = numberAnswer n
+printed done = numberAnswer 0
+printed (reads (read-value v entries)) = valueAnswer v entries
+printed (reads (read-unwritten entries)) = unwrittenAnswer entries
+printed (current stamp) = stampAnswer stamp true
+printed (superseded stamp) = stampAnswer stamp false
 
--- a call with this number says what it has to say if done, and else its number and nothing more
-unfoldable pub saysOr : ℕ → List ℕ → List ℕ
-saysOr number done = pick (eqb number 0) done (numberAnswer number)
-
--- what is said to an event and its numbers
+-- what is said to an event and its numbers, and the book after it: those of the request
 unfoldable pub eventSays : List ℕ → Event → List ℕ → List ℕ
-eventSays l Setup ns = numberAnswer (setupNumber l (countsIn ns) (homesIn ns))
-eventSays l Read ns = saysOr (readNumber l (getD ns 0 0) (getD ns 1 0)) (foundSays (countsOf l .depots) (readRecord l (getD ns 0 0) (getD ns 1 0)))
-eventSays l Write ns =
-    saysOr (writeNumber l (getD ns 0 0) (getD ns 1 0))
-    (stampAnswer (newStamp l (getD ns 0 0) (getD ns 1 0)) (isCurrent l (getD ns 0 0) (getD ns 1 0) (getD ns 2 0)))
-eventSays l Tick ns = numberAnswer (tickNumber l (getD ns 0 0) (getD ns 1 0))
-eventSays l Take ns = numberAnswer (takeNumber l (getD ns 0 0) (getD ns 1 0) (getD ns 2 0))
-eventSays l Refresh ns = numberAnswer (refreshNumber l (getD ns 0 0) (getD ns 1 0))
+eventSays l e ns = printed (onPaper (countsOf l .depots) (replyTo l (requestOf e ns)))
 
--- the book after an event and its numbers: that of the call
 unfoldable pub eventBook : List ℕ → Event → List ℕ → List ℕ
-eventBook l Setup ns = after (setupNumber l (countsIn ns) (homesIn ns)) (setUp (countsIn ns) (homesIn ns)) l
-eventBook l Read ns = after (readNumber l (getD ns 0 0) (getD ns 1 0)) (readBook l (getD ns 0 0) (getD ns 1 0)) l
-eventBook l Write ns = after (writeNumber l (getD ns 0 0) (getD ns 1 0)) (writeBook l (getD ns 0 0) (getD ns 1 0) (getD ns 2 0)) l
-eventBook l Tick ns = after (tickNumber l (getD ns 0 0) (getD ns 1 0)) (tickBook l (getD ns 0 0) (getD ns 1 0)) l
-eventBook l Take ns = after (takeNumber l (getD ns 0 0) (getD ns 1 0) (getD ns 2 0)) (takeBook l (getD ns 0 0) (getD ns 1 0) (getD ns 2 0)) l
-eventBook l Refresh ns = after (refreshNumber l (getD ns 0 0) (getD ns 1 0)) (refreshBook l (getD ns 0 0) (getD ns 1 0)) l
+eventBook l e ns = requests.bookAfter l (requestOf e ns)
 
 -- the same of what a line says; a bad line leaves the book alone
 unfoldable pub readingSays : List ℕ → Reading → List ℕ

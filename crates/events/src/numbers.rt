@@ -3,7 +3,8 @@ use register::answer::Answer;
 use register::answer::Refusal;
 ghost use mathlib.Core.Path.{_≡_};
 ghost use Rattle.register.specs.Answers.{numberOf};
-ghost use Rattle.events.specs.Numbers.{answerNumber};
+ghost use Rattle.upkeep.specs.Paper.{paper};
+ghost use Rattle.paper.specs.Calls.{numberIn};
 
 // The number of a refusal.
 pub fn number_of(r: Refusal) -> u32
@@ -26,7 +27,7 @@ pub fn number_of(r: Refusal) -> u32
 
 // The number of an answer: 0 is done.
 pub fn number_of_answer(a: Answer) -> u32
-    ensures { λ n. ⌜ n ≡ answerNumber a ⌝ }
+    ensures { λ n. ⌜ n ≡ numberIn (paper a) ⌝ }
 {
     match a {
         Answer::Done => 0,

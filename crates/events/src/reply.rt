@@ -28,12 +28,11 @@ ghost use Rattle.order.specs.Record.{mostDepots};
 ghost use Rattle.book.specs.Layout.{countsOf};
 ghost use Rattle.fit.specs.Named.{baseFit};
 ghost use Rattle.line.specs.Grammar.{least};
-ghost use Rattle.line.specs.Answers.{numberAnswer};
 ghost use Rattle.line.specs.Printing.{Wrote};
 ghost use Rattle.line.specs.Reading.{reading};
 ghost use Rattle.line.specs.declared.reader.Event.the-variants.{Setup, Read, Write, Tick, Take, Refresh};
-ghost use Rattle.events.specs.Answering.{answerRoom, eventSays, eventBook, readingSays, readingBook, answerTo, bookAfter};
-ghost use Rattle.events.specs.Numbers.{answerNumber, findingSays, writtenSays};
+ghost use Rattle.upkeep.specs.Paper.{paper, paperFound, paperWrite};
+ghost use Rattle.events.specs.Answering.{answerRoom, printed, eventSays, eventBook, readingSays, readingBook, answerTo, bookAfter};
 
 pub const LINE_FEED: u8 = b'\n';
 
@@ -59,7 +58,7 @@ fn depots_in(book: &[u32]) -> usize
 // The answer of a setup, a tick, a take or a refresh.
 fn say_answer(answer: Answer, out: &mut [u8], at: usize) -> usize
     requires { ⌜ at + answerRoom ≤ length (now out) ⌝ }
-    ensures { λ r. ⌜ Wrote (now (out .entry)) at (numberAnswer (answerNumber answer)) (now (out .exit)) r ⌝ }
+    ensures { λ r. ⌜ Wrote (now (out .entry)) at (printed (paper answer)) (now (out .exit)) r ⌝ }
 {
     let n = number_of_answer(answer);
     answer_number(out, at, n)
@@ -74,7 +73,7 @@ fn say_finding(
     at: usize,
 ) -> usize
     requires { ⌜ (at + answerRoom ≤ length (now out)) × (depots ≤ mostDepots) ⌝ }
-    ensures { λ r. ⌜ Wrote (now (out .entry)) at (findingSays finding (take depots vector)) (now (out .exit)) r ⌝ }
+    ensures { λ r. ⌜ Wrote (now (out .entry)) at (printed (paperFound finding (take depots vector))) (now (out .exit)) r ⌝ }
 {
     match finding {
         Finding::Value(v) => answer_value(out, at, v, &vector, depots),
@@ -89,7 +88,7 @@ fn say_finding(
 // The answer of a write.
 fn say_written(answer: WriteAnswer, out: &mut [u8], at: usize) -> usize
     requires { ⌜ at + answerRoom ≤ length (now out) ⌝ }
-    ensures { λ r. ⌜ Wrote (now (out .entry)) at (writtenSays answer) (now (out .exit)) r ⌝ }
+    ensures { λ r. ⌜ Wrote (now (out .entry)) at (printed (paperWrite answer)) (now (out .exit)) r ⌝ }
 {
     match answer {
         WriteAnswer::Current(stamp) => answer_stamp(out, at, stamp, true),

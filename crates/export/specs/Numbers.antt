@@ -1,4 +1,4 @@
--- The number that C gets for each answer, and what a call leaves in `out`.
+-- What a call leaves in `out`.
 -- Assumes nothing.
 use Prim.Native.Nat.{ℕ}
 use mathlib.Core.List.{List, [], _∷_}
@@ -15,18 +15,7 @@ use Rattle.register.specs.declared.answer.Finding.the-variants.{Value, Unwritte
 use Rattle.register.specs.declared.answer.ReadAnswer.{ReadAnswer}
 use Rattle.register.specs.declared.answer.WriteAnswer.{WriteAnswer}
 use Rattle.register.specs.declared.answer.WriteAnswer.the-variants.{Current, Superseded}
-use Rattle.register.specs.Answers.{numberOf, cut}
-
--- the number of a read's answer and of a write's: 0 is done
-abbrev pub findingNumber : Finding → ℕ
-findingNumber (Value v) = 0
-findingNumber Unwritten = 0
-findingNumber (Finding.Refused r) = numberOf r
-
-abbrev pub writeAnswerNumber : WriteAnswer → ℕ
-writeAnswerNumber (Current stamp) = 0
-writeAnswerNumber (Superseded stamp) = 0
-writeAnswerNumber (WriteAnswer.Refused r) = numberOf r
+use Rattle.register.specs.Answers.{cut}
 
 -- o with the words w at its start, where it has room for them all; else as it was
 unfoldable pub filled : List ℕ → List ℕ → List ℕ

@@ -28,10 +28,12 @@ ghost use Rattle.order.specs.Loops.{pick};
 ghost use Rattle.book.specs.Layout.{countsOf};
 ghost use Rattle.fit.specs.Fit.{fit};
 ghost use Rattle.register.specs.Calls.{setUp, readRecord, readBook, newStamp, isCurrent, writeBook, tickBook, takeBook, refreshBook};
+ghost use Rattle.paper.specs.Calls.{numberIn};
+ghost use Rattle.upkeep.specs.Paper.{paperFound, paperWrite};
 ghost use Rattle.register.specs.Promises.{after};
 ghost use Rattle.events.specs.Answering.{answerRoom, answerTo, bookAfter};
 ghost use Rattle.register.specs.Table.{setupNumber, readNumber, writeNumber, tickNumber, takeNumber, refreshNumber};
-ghost use Rattle.export.specs.Numbers.{findingNumber, writeAnswerNumber, filled, readWords, foundOut, writtenOut, greaterNumber};
+ghost use Rattle.export.specs.Numbers.{filled, readWords, foundOut, writtenOut, greaterNumber};
 
 #[no_mangle]
 pub extern "C" fn depot_setup(
@@ -81,7 +83,7 @@ pub extern "C" fn depot_refresh(book: &mut [u32], depot: u32, shelf: u32) -> u32
 
 // What a read found stands in `out`, and its number comes back.
 fn tell_finding(out: &mut [u32], finding: Finding, vector: [u32; 4]) -> u32
-    ensures { λ r. ⌜ r ≡ findingNumber finding ⌝ }
+    ensures { λ r. ⌜ r ≡ numberIn (paperFound finding vector) ⌝ }
     ensures { λ r. ⌜ now (out .exit) ≡ foundOut finding vector (now (out .entry)) ⌝ }
 {
     match finding {
@@ -101,7 +103,7 @@ fn tell_finding(out: &mut [u32], finding: Finding, vector: [u32; 4]) -> u32
 
 // What a write answered stands in `out`, and its number comes back.
 fn tell_written(out: &mut [u32], answer: WriteAnswer) -> u32
-    ensures { λ r. ⌜ r ≡ writeAnswerNumber answer ⌝ }
+    ensures { λ r. ⌜ r ≡ numberIn (paperWrite answer) ⌝ }
     ensures { λ r. ⌜ now (out .exit) ≡ writtenOut answer (now (out .entry)) ⌝ }
 {
     match answer {
@@ -142,10 +144,10 @@ pub extern "C" fn depot_write(
     value: u32,
     out: &mut [u32],
 ) -> u32
-    ensures { λ r. ⌜ r ≡ writeNumber (now (book .entry)) crew bearing ⌝ }
-    ensures { λ r. ⌜ now (book .exit) ≡ after (writeNumber (now (book .entry)) crew bearing) (writeBook (now (book .entry)) crew bearing value) (now (book .entry)) ⌝ }
+    ensures { λ r. ⌜ r ≡ writeNumber (now (book .entry)) crew bearing value ⌝ }
+    ensures { λ r. ⌜ now (book .exit) ≡ after (writeNumber (now (book .entry)) crew bearing value) (writeBook (now (book .entry)) crew bearing value) (now (book .entry)) ⌝ }
     ensures { λ r. ⌜ now (out .exit)
-        ≡ after (writeNumber (now (book .entry)) crew bearing)
+        ≡ after (writeNumber (now (book .entry)) crew bearing value)
         (filled (newStamp (now (book .entry)) crew bearing ∷ pick (isCurrent (now (book .entry)) crew bearing value) 1 0 ∷ []) (now (out .entry)))
         (now (out .entry)) ⌝ }
 {

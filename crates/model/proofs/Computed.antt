@@ -10,8 +10,8 @@ use Rattle.order.specs.Vector.{Vec, merged, covered, zeros, agree}
 use Rattle.order.specs.Order.{Rank, above}
 use Rattle.model.specs.Parts.{Counts, Version, Write, copy, Shelf, State, put, rank, greater, setShelf, setCrew, lowest, other, stampOf, unwritten, emptyShelf, fresh, end, room}
 use Rattle.model.specs.Rules.{raised, keeping, clear, shownOf, left, shown, settled, settle, storing, keep, ticked, receiving, heldOf, taking, holds, emit, send, roomy, lowestSeen}
-use Rattle.model.specs.Calls.{Call, read, write, tick, take, refresh, Answer, refused, done, current, superseded, Outcome}
-use Rattle.model.specs.Calls.{entries, told, first, none, shelfOf, homeShelf, answered, made, refusal, reading, acted, step, answers, ends}
+use Rattle.paper.specs.Calls.{Call, read, write, tick, take, refresh, Answer, refused, done, current, superseded, first}
+use Rattle.model.specs.Calls.{Outcome, entries, told, none, shelfOf, homeShelf, answered, made, refusal, reading, acted, step, answers, ends}
 
 unfoldable pub refreshFrom : ℕ → ℕ → State → Shelf → Outcome
 refreshFrom d s σ g = record { answer = done; state = setShelf d s g σ }

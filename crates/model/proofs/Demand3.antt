@@ -7,6 +7,7 @@ use mathlib.Core.Path.{_≡_}
 use mathlib.Core.List.{List}
 use Rattle.model.specs.Parts.{Counts}
 use Rattle.model.specs.Calls.{setup, shelfOf}
+use Rattle.model.specs.System.{ofModel}
 use Rattle.model.specs.Demands.{lowestClock, Demand3}
 use Rattle.model.proofs.Refusals.{SetUp, set-up, shelf-below}
 use Rattle.model.proofs.Histories.{inv}
@@ -16,12 +17,12 @@ use Rattle.model.proofs.Waiting.{waiting}
 use Rattle.model.proofs.Possible.{possible}
 
 module _ (π : Counts) (homes : List ℕ) where
-  pub demand3 : setup π homes ≡ 0 → Demand3 π homes
+  pub demand3 : setup π homes ≡ 0 → Demand3 π (ofModel π homes)
   demand3 e = record {
     delivered = λ g h w m r d hd.
         let o = w .version .origin in
         at-least π homes u h _ w (rounds-made π homes u r m)
-        (rounds-deliver π homes u r (add-one _) w m (lowestClock π homes g o) (lowest-top π homes u g o) (lowest-reached π homes u g o) (omega arith) d hd)
+        (rounds-deliver π homes u r (add-one _) w m (lowestClock π (ofModel π homes) g o) (lowest-top π homes u g o) (lowest-reached π homes u g o) (omega arith) d hd)
         (inv π homes u h .sound .shelf d (shelfOf π (w .bearing)) hd (shelf-below π u (w .bearing)) .stores (w .bearing));
     waits = waiting π homes u;
     possible = possible π homes;

@@ -9,7 +9,9 @@ use borrow.Author.Tests.{eq-eqb, ne-eqb}
 use Rattle.order.proofs.BoolLaws.{eq-or-ne, pick-true, pick-false}
 use Rattle.order.proofs.VectorLaws.{zeros-intro}
 use Rattle.model.specs.Parts.{Counts, Write, State, fresh, emptyShelf, unwritten}
-use Rattle.model.specs.Calls.{Call, read, write, tick, take, refresh, Outcome, made, refusal, acted, step, run}
+use Rattle.paper.specs.Calls.{Call, read, write, tick, take, refresh}
+use Rattle.model.specs.Calls.{Outcome, made, refusal, acted, step}
+use Rattle.model.specs.System.{ofModel, after, run}
 use Rattle.model.specs.Demands.{Wrote, MadeAt, now, earlier, Made}
 use Rattle.model.proofs.Chains.{chain-start}
 use Rattle.model.proofs.Invariant.{Good, Grows, Sound, Change, grows-refl, grows-trans, good-changes, sound-more, change-more, change-none}
@@ -26,75 +28,75 @@ step-refused π σ q e = ap (λ (o : Outcome). o .state) (pick-false _ _ (ne-eqb
 
 module _ (π : Counts) (homes : List ℕ) where
   pub run-done : (h : List Call) (q : Call) → refusal π (run π homes h) q ≡ 0 → run π homes (q ∷ h) ≡ acted π (run π homes h) q .state
-  unfolding run
+  unfolding after
   run-done h q e = ap (λ (o : Outcome). o .state) (step-done π (run π homes h) q e)
 
   pub run-refused : (h : List Call) (q : Call) → (refusal π (run π homes h) q ≡ 0 → ⊥) → run π homes (q ∷ h) ≡ run π homes h
-  unfolding run
+  unfolding after
   run-refused h q e = step-refused π (run π homes h) q e
 
-  pub made-more : {h : List Call} {q : Call} (w : Write) → Made π homes h w → Made π homes (q ∷ h) w
+  pub made-more : {h : List Call} {q : Call} (w : Write) → Made (ofModel π homes) h w → Made (ofModel π homes) (q ∷ h) w
   made-more w m = record { before = m .before; author = m .author; at = earlier (m .at) }
 
   -- a write made was made by the last call, or before
-  pub made-cases : {h : List Call} {q : Call} {w : Write} → Made π homes (q ∷ h) w → ((c : ℕ) × Wrote π homes h q c w) ⊎ Made π homes h w
+  pub made-cases : {h : List Call} {q : Call} {w : Write} → Made (ofModel π homes) (q ∷ h) w → ((c : ℕ) × Wrote (ofModel π homes) h q c w) ⊎ Made (ofModel π homes) h w
   made-cases {h} {q} {w} m = go (m .at)
     where
-      go : {g : List Call} {c : ℕ} → MadeAt π homes (q ∷ h) g c w → ((c : ℕ) × Wrote π homes h q c w) ⊎ Made π homes h w
+      go : {g : List Call} {c : ℕ} → MadeAt (ofModel π homes) (q ∷ h) g c w → ((c : ℕ) × Wrote (ofModel π homes) h q c w) ⊎ Made (ofModel π homes) h w
       go (now t) = inl (_, t)
       go (earlier t) = inr (record { before = _; author = _; at = t })
 
-  pub made-never : {w : Write} → Made π homes [] w → ⊥
+  pub made-never : {w : Write} → Made (ofModel π homes) [] w → ⊥
   made-never {w} m = go (m .at)
     where
-      go : {g : List Call} {c : ℕ} → MadeAt π homes [] g c w → ⊥
+      go : {g : List Call} {c : ℕ} → MadeAt (ofModel π homes) [] g c w → ⊥
       go t = elim t [ ]
 
   -- a write call makes one write
-  pub wrote-same : {h : List Call} {c k v b : ℕ} {w : Write} → Wrote π homes h (write c k v) b w → w ≡ record { bearing = k; version = made π c k v (run π homes h) }
+  pub wrote-same : {h : List Call} {c k v b : ℕ} {w : Write} → Wrote (ofModel π homes) h (write c k v) b w → w ≡ record { bearing = k; version = made π c k v (run π homes h) }
   wrote-same {h} {c} {k} {v} {b} {w} t =
-      let call : write c k v ≡ write b (w .bearing) (t .value) = t .call in
+      let call : write c k v ≡ write b (w .bearing) (t .makes .0) = t .makes .1 in
       let bearing : w .bearing ≡ k = cc in
-      let version : w .version ≡ made π c k v (run π homes h) = cc in
+      let is = t .makes .2 in let version : w .version ≡ made π c k v (run π homes h) = cc in
       λ i. record { bearing = bearing i; version = version i }
 
   pub record Inv (h : List Call) : Type 0 where
-    pub sound : Sound π (Made π homes h) (run π homes h)
-    pub good : (w : Write) → Made π homes h w → Good π (run π homes h) w
+    pub sound : Sound π (Made (ofModel π homes) h) (run π homes h)
+    pub good : (w : Write) → Made (ofModel π homes) h w → Good π (run π homes h) w
 
   -- what a call leaves of the invariant
   record Kept (h : List Call) (q : Call) (τ : State) : Type 0 where
-    change : Change π (Made π homes (q ∷ h)) (run π homes h) τ
-    wrote : (c : ℕ) (w : Write) → Wrote π homes h q c w → Good π τ w
+    change : Change π (Made (ofModel π homes) (q ∷ h)) (run π homes h) τ
+    wrote : (c : ℕ) (w : Write) → Wrote (ofModel π homes) h q c w → Good π τ w
 
   module _ (u : SetUp π homes) where
     kept-done : (h : List Call) (q : Call) → Inv h → refusal π (run π homes h) q ≡ 0 → Kept h q (acted π (run π homes h) q .state)
     kept-done h (read c k) i e = record {
-      change = change-more π made-more (read-done π (Made π homes h) (run π homes h) (i .sound) (shelf-below π u) c k (read-passed π _ c k e .crew) (i .good));
-      wrote = λ b w t. absurd (let call = t .call in let n : _≡_ {A = ℕ} 0 1 = cc in omega arith);
+      change = change-more π made-more (read-done π (Made (ofModel π homes) h) (run π homes h) (i .sound) (shelf-below π u) c k (read-passed π _ c k e .crew) (i .good));
+      wrote = λ b w t. absurd (let call = t .makes .1 in let n : _≡_ {A = ℕ} 0 1 = cc in omega arith);
     }
     kept-done h (write c k v) i e = record {
-      change = write-done π (Made π homes h) (run π homes h) (i .sound) (shelf-below π u) c k (p .crew) (Made π homes (write c k v ∷ h)) made-more v p mine;
-      wrote = λ b w t. subst (Good π _) (sym (wrote-same t)) (write-good π (Made π homes h) (run π homes h) (i .sound) (shelf-below π u) c k (p .crew)
-          (Made π homes (write c k v ∷ h)) made-more v p mine);
+      change = write-done π (Made (ofModel π homes) h) (run π homes h) (i .sound) (shelf-below π u) c k (p .crew) (Made (ofModel π homes) (write c k v ∷ h)) made-more v p mine;
+      wrote = λ b w t. subst (Good π _) (sym (wrote-same t)) (write-good π (Made (ofModel π homes) h) (run π homes h) (i .sound) (shelf-below π u) c k (p .crew)
+          (Made (ofModel π homes) (write c k v ∷ h)) made-more v p mine);
     }
       where
         p : WritePassed π (run π homes h) c k
         p = write-passed π _ c k v e
 
-        mine : Made π homes (write c k v ∷ h) (record { bearing = k; version = made π c k v (run π homes h) })
-        mine = record { before = h; author = c; at = now (record { value = v; call = refl; passed = e; version = refl }) }
+        mine : Made (ofModel π homes) (write c k v ∷ h) (record { bearing = k; version = made π c k v (run π homes h) })
+        mine = record { before = h; author = c; at = now (record { passed = e; makes = (v, refl, refl) }) }
     kept-done h (tick d s) i e = record {
-      change = change-more π made-more (tick-done π (Made π homes h) (run π homes h) (i .sound) (tick-passed π _ d s e));
-      wrote = λ b w t. absurd (let call = t .call in let n : _≡_ {A = ℕ} 0 1 = cc in omega arith);
+      change = change-more π made-more (tick-done π (Made (ofModel π homes) h) (run π homes h) (i .sound) (tick-passed π _ d s e));
+      wrote = λ b w t. absurd (let call = t .makes .1 in let n : _≡_ {A = ℕ} 0 1 = cc in omega arith);
     }
     kept-done h (take d s o) i e = record {
-      change = change-more π made-more (take-done π (Made π homes h) (run π homes h) (i .sound) (take-passed π _ d s o e));
-      wrote = λ b w t. absurd (let call = t .call in let n : _≡_ {A = ℕ} 0 1 = cc in omega arith);
+      change = change-more π made-more (take-done π (Made (ofModel π homes) h) (run π homes h) (i .sound) (take-passed π _ d s o e));
+      wrote = λ b w t. absurd (let call = t .makes .1 in let n : _≡_ {A = ℕ} 0 1 = cc in omega arith);
     }
     kept-done h (refresh d s) i e = record {
-      change = change-more π made-more (refresh-done π (Made π homes h) (run π homes h) (i .sound) (refresh-passed π _ d s e));
-      wrote = λ b w t. absurd (let call = t .call in let n : _≡_ {A = ℕ} 0 1 = cc in omega arith);
+      change = change-more π made-more (refresh-done π (Made (ofModel π homes) h) (run π homes h) (i .sound) (refresh-passed π _ d s e));
+      wrote = λ b w t. absurd (let call = t .makes .1 in let n : _≡_ {A = ℕ} 0 1 = cc in omega arith);
     }
 
     kept : (h : List Call) (q : Call) → Inv h → Kept h q (run π homes (q ∷ h))
@@ -107,7 +109,7 @@ module _ (π : Counts) (homes : List ℕ) where
         (eq-or-ne (refusal π (run π homes h) q) 0)
 
     inv-fresh : Inv []
-    unfolding run fresh emptyShelf unwritten
+    unfolding after fresh emptyShelf unwritten
     inv-fresh = record {
       sound = record {
         shelf = λ d s hd hs. record {
@@ -135,7 +137,7 @@ module _ (π : Counts) (homes : List ℕ) where
         }
 
     -- one more call
-    pub call-changes : (h : List Call) (q : Call) → Change π (Made π homes (q ∷ h)) (run π homes h) (run π homes (q ∷ h))
+    pub call-changes : (h : List Call) (q : Call) → Change π (Made (ofModel π homes) (q ∷ h)) (run π homes h) (run π homes (q ∷ h))
     call-changes h q = kept h q (inv h) .change
 
     pub history-grows : (l h : List Call) → Grows π (run π homes h) (run π homes (l ++ h))

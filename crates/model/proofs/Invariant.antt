@@ -2,7 +2,7 @@
 -- Assumes nothing.
 use Prim.Native.Nat.{ℕ, _≤_, _<_}
 use native.Mathlib.Nat.{le-refl, le-trans}
-use mathlib.Core.Path.{_≡_, refl, _∙_}
+use mathlib.Core.Path.{_≡_}
 use mathlib.Core.Logic.{_⊎_, inl, inr}
 use mathlib.Core.Bool.{true}
 use mathlib.Core.List.{List·Memᴰ}
@@ -32,14 +32,13 @@ module _ (π : Counts) where
     pub clock : stamp (w .version) ≤ σ .shelf (w .version .origin) (shelfOf π (w .bearing)) .clock
     pub stands : (d : ℕ) → d < π .depots → Stands σ w d
 
-  -- nothing falls from σ to τ, and homes stay
+  -- nothing falls from σ to τ
   pub record Grows (σ τ : State) : Type 0 where
     pub clock : (d s : ℕ) → σ .shelf d s .clock ≤ τ .shelf d s .clock
     pub stable : (d s x : ℕ) → σ .shelf d s .stable x ≤ τ .shelf d s .stable x
     pub seen : (d s x : ℕ) → σ .shelf d s .seen x ≤ τ .shelf d s .seen x
     pub store : (d s k : ℕ) → AtMost (π .depots) (σ .shelf d s .store k) (τ .shelf d s .store k)
     pub crew : (c x : ℕ) → σ .crew c x ≤ τ .crew c x
-    pub home : (c : ℕ) → τ .home c ≡ σ .home c
 
   module _ (M : Write → Type 0) where
     -- a copy on the link from depot o of shelf s was made, by depot o, on that shelf
@@ -72,7 +71,7 @@ module _ (π : Counts) where
 
   pub grows-refl : {σ : State} → Grows σ σ
   grows-refl = record
-      { clock = λ d s. le-refl _; stable = λ d s x. le-refl _; seen = λ d s x. le-refl _; store = λ d s k. atMost-refl; crew = λ c x. le-refl _; home = λ c. refl }
+      { clock = λ d s. le-refl _; stable = λ d s x. le-refl _; seen = λ d s x. le-refl _; store = λ d s k. atMost-refl; crew = λ c x. le-refl _ }
 
   pub grows-trans : {σ τ υ : State} → Grows σ τ → Grows τ υ → Grows σ υ
   grows-trans g h = record {
@@ -81,7 +80,6 @@ module _ (π : Counts) where
     seen = λ d s x. le-trans (g .seen d s x) (h .seen d s x);
     store = λ d s k. atMost-trans (g .store d s k) (h .store d s k);
     crew = λ c x. le-trans (g .crew c x) (h .crew c x);
-    home = λ c. h .home c ∙ g .home c;
   }
 
   pub rests-grows : {σ τ : State} {d : ℕ} {u : Vec} → Grows σ τ → Rests σ d u → Rests τ d u

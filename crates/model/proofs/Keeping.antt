@@ -24,7 +24,6 @@ module _ (π : Counts) (M : Write → Type 0) (σ : State) (z : Sound π M σ) (
     seen = λ d s x. le-refl _;
     store = λ d s k. atMost-refl;
     crew = put-all (λ b (v : Vec). (x : ℕ) → σ .crew b x ≤ v x) c rises (λ b apart x. le-refl _);
-    home = λ b. refl;
   }
 
   pub crew-changes : Change π M σ (setCrew c u σ)
@@ -69,7 +68,6 @@ module _ (π : Counts) (M : Write → Type 0) (σ : State) (z : Sound π M σ) (
     seen = λ e r x. le-of (same (λ c v u t l. u x) e r);
     store = setShelf-all (λ e r g. (k : ℕ) → AtMost (π .depots) (σ .shelf e r .store k) (g .store k)) d s new σ (keeping-rises (π .depots) w (old .store)) (λ e r apart k. atMost-refl);
     crew = λ c x. le-refl _;
-    home = λ c. refl;
   }
     where
       le-of : {x y : ℕ} → x ≡ y → y ≤ x

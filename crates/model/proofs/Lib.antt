@@ -20,6 +20,9 @@ pub mod Rounds
 pub mod Waiting
 pub mod Possible
 pub mod Demand3
+pub mod TheDemands
+pub mod Transfer
 pub mod Lawful
 pub mod Computed
 pub mod Worked
+pub mod Witnesses

@@ -10,14 +10,16 @@ use mathlib.Core.List.{List, [], _∷_, _++_}
 use lib.ListN.{length, length-append}
 use Rattle.order.specs.Vector.{Vec}
 use Rattle.order.proofs.BoolLaws.{eq-or-ne}
-use Rattle.model.specs.Parts.{Counts, Write, Message, copy, heartbeat, Shelf, State, fresh, emptyShelf, setShelf, setCrew, end}
-use Rattle.model.specs.Rules.{left, shown, settled, settle, storing, keep, ticked, receiving, send, heldOf, taking}
-use Rattle.model.specs.Calls.{Call, read, write, tick, take, refresh, setup, shelfOf, refusal, homeShelf, reading, acted, run}
+use Rattle.model.specs.Parts.{Counts, Write, Message, copy, heartbeat, Shelf, State, fresh, emptyShelf, setShelf, setCrew, room}
+use Rattle.model.specs.Rules.{left, shown, settled, settle, storing, keep, ticked, receiving, send, heldOf, taking, holds}
+use Rattle.paper.specs.Calls.{Call, read, write, tick, take, refresh}
+use Rattle.model.specs.Calls.{setup, shelfOf, refusal, homeShelf, reading, acted}
+use Rattle.model.specs.System.{ofModel, after, run}
 use Rattle.model.specs.Demands.{Limits}
 use Rattle.model.proofs.Places.{pick-all, put-all, put-both, Other, setShelf-all, emit-all}
 use Rattle.model.proofs.Settling.{raised-own}
 use Rattle.model.proofs.Room.{roomy-free}
-use Rattle.model.proofs.Unique.{unique}
+use Rattle.model.proofs.Unique.{unique, beats}
 use Rattle.model.proofs.Refusals.{set-up, write-passed, tick-passed}
 use Rattle.model.proofs.Histories.{run-done, run-refused, inv}
 
@@ -116,7 +118,7 @@ module _ (π : Counts) where
 
   module _ (homes : List ℕ) where
     history-fits : (h : List Call) → AllFit (run π homes h)
-    unfolding run fresh emptyShelf
+    unfolding after fresh emptyShelf
     history-fits [] = λ d s. record { links = λ o. omega arith; own = refl }
     history-fits (q ∷ h) = go (history-fits h)
       where
@@ -126,11 +128,12 @@ module _ (π : Counts) where
             (λ (e : refusal π (run π homes h) q ≡ 0 → ⊥). subst AllFit (sym (run-refused π homes h q e)) f)
             (eq-or-ne (refusal π (run π homes h) q) 0)
 
-    pub limits : setup π homes ≡ 0 → Limits π homes
-    unfolding end
+    pub limits : setup π homes ≡ 0 → Limits π (ofModel π homes)
+    unfolding holds room
     limits e = record {
-      links = λ h d s o. history-fits h d s .links o;
-      own = λ h d s. history-fits h d s .own;
+      links = λ h d s o hd hs ho n. history-fits h d s .links o;
+      own = λ h d s hd hs. history-fits h d s .own;
       clocks = λ h d s hd hs. inv π homes (set-up π homes e) h .sound .shelf d s hd hs .top;
       stamps = unique π homes (set-up π homes e);
+      beats = λ l h d s q c w hd hs e′. beats π homes (set-up π homes e) l h d s q c w;
     }

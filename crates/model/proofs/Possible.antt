@@ -1,19 +1,22 @@
 -- After every history a round can be made: take link by link until each is empty, then refresh and tick every shelf.
 -- Assumes nothing.
-use Prim.Native.Nat.{ℕ, zero, suc, _<_}
+use Prim.Native.Nat.{ℕ, zero, suc, _+_, _*_, _<_}
 use native.Mathlib.Omega.{arith}
-use mathlib.Core.Path.{_≡_, refl, sym, subst, ap, _∙_}
+use native.Mathlib.Nat.{zero-mul, suc-mul, add-comm}
+use mathlib.Core.Path.{_≡_, refl, sym, subst, ap, ap₂, _∙_}
 use mathlib.Core.Logic.{⊎-elim}
 use mathlib.Core.List.{List, [], _∷_, _++_, append-assoc, List·Memᴰ, List·Memᴰ·head}
 use mathlib.Core.List.{List·Memᴰ·tail, List·Memᴰ·cases-cons, List·Memᴰ·not-nil, List·Memᴰ·append-cases, List·Memᴰ·eq-of-singleton, Memᴰ·append-left, Memᴰ·append-right}
-use borrow.Author.Tests.{lt-leb, ne-eqb}
-use Rattle.order.specs.Loops.{pick}
+use lib.ListN.{length, length-append}
 use Rattle.order.proofs.BoolLaws.{eq-or-ne}
 use Rattle.model.specs.Parts.{Counts, Message, Shelf, State}
 use Rattle.model.specs.Rules.{taking}
-use Rattle.model.specs.Calls.{Call, tick, take, refresh, first, none, refusal, acted, run}
-use Rattle.model.specs.Demands.{IsTake, a-take, IsRefresh, a-refresh, IsTick, a-tick, Each, Round}
+use Rattle.paper.specs.Calls.{Call, tick, take, refresh}
+use Rattle.model.specs.Calls.{refusal, acted}
+use Rattle.model.specs.System.{ofModel, run}
+use Rattle.model.specs.Demands.{IsTake, a-take, IsRefresh, a-refresh, IsTick, a-tick, Each, RoundOnce}
 use Rattle.model.proofs.Places.{put-all, put-same, Other, setShelf-all, setShelf-here, last-or-below}
+use Rattle.model.proofs.Refusals.{take-passes, take-none}
 use Rattle.model.proofs.Histories.{run-done, run-refused}
 
 -- every f d s with d below n and s below m
@@ -37,6 +40,16 @@ grid-has f (suc n) m d s hd hs = ⊎-elim
     (λ (e : d ≡ n). Memᴰ·append-left (grid f n m) (subst (λ y. List·Memᴰ (f d s) (row (f y) m)) e (row-has (f d) m s hs)))
     (λ (l : d < n). Memᴰ·append-right (row (f n) m) (grid-has f n m d s l hs))
     (last-or-below d n hd)
+
+row-length : (f : ℕ → Call) (n : ℕ) → length (row f n) ≡ n
+unfolding row
+row-length f zero = refl
+row-length f (suc n) = ap suc (row-length f n)
+
+grid-length : (f : ℕ → ℕ → Call) (n m : ℕ) → length (grid f n m) ≡ n * m
+unfolding grid
+grid-length f zero m = sym (zero-mul m)
+grid-length f (suc d) m = length-append (row (f d) m) (grid f d m) ∙ ap₂ (λ (x y : ℕ). x + y) (row-length (f d) m) (grid-length f d m) ∙ add-comm m (d * m) ∙ sym (suc-mul d m)
 
 row-each : (kind : Call → Type 0) (f : ℕ → Call) (n : ℕ) → ((i : ℕ) → kind (f i)) → Each kind (row f n)
 unfolding row
@@ -97,14 +110,10 @@ module _ (π : Counts) (homes : List ℕ) where
             (last-or-below i n hi));
       }
 
-  take-passes : (σ : State) (d s o : ℕ) (m : Message) (l : List Message) → d < π .depots → s < π .shelves → Other (π .depots) d o → σ .shelf d s .untaken o ≡ m ∷ l → refusal π σ (take d s o) ≡ 0
-  unfolding refusal first pick none
-  take-passes σ d s o m l hd hs a e = rw (lt-leb (π .depots) d hd, lt-leb (π .depots) o (a .below), lt-leb (π .shelves) s hs, ne-eqb d o (λ f. a .apart (sym f)), e) refl
-
   take-next : (h : List Call) (d s o : ℕ) (m : Message) (l : List Message) → d < π .depots → s < π .shelves → Other (π .depots) d o → run π homes h .shelf d s .untaken o ≡ m ∷ l
       → run π homes (take d s o ∷ h) .shelf d s .untaken o ≡ l
   unfolding acted taking
-  take-next h d s o m l hd hs a e = ap (λ (σ : State). σ .shelf d s .untaken o) (run-done π homes h (take d s o) (take-passes _ d s o m l hd hs a e))
+  take-next h d s o m l hd hs a e = ap (λ (σ : State). σ .shelf d s .untaken o) (run-done π homes h (take d s o) (take-passes π _ d s o m l hd hs a e))
       ∙ ap (λ (g : Shelf). g .untaken o) (setShelf-here d s _ (run π homes h))
       ∙ ap (λ y. taking o y (run π homes h .shelf d s) .untaken o) e ∙ put-same o l _
 
@@ -132,20 +141,24 @@ module _ (π : Counts) (homes : List ℕ) where
       (λ (n : o ≡ d → ⊥). let t = drain d s o hd hs (record { below = ho; apart = n }) _ h refl in record { calls = t .calls; each = t .each; then = λ n. t .then })
       (eq-or-ne o d))))
 
-  pub possible : (h : List Call) → (i : List Call) × Round π homes h i
+  pub possible : (h : List Call) → (i : List Call) × RoundOnce π (ofModel π homes) h i
   possible h = (
     ticks ++ (refreshes ++ (t .calls ++ h)),
     record {
-      takes = t .calls;
-      refreshes = refreshes;
-      ticks = ticks;
-      are-takes = t .each;
-      are-refreshes = grid-each IsRefresh refresh (π .depots) (π .shelves) (λ d s. a-refresh);
-      are-ticks = grid-each IsTick tick (π .depots) (π .shelves) (λ d s. a-tick);
-      emptied = λ d s o hd hs ho n. t .then d hd s hs o ho n;
-      refreshed = λ d s hd hs. grid-has refresh (π .depots) (π .shelves) d s hd hs;
-      ticked = λ d s hd hs. grid-has tick (π .depots) (π .shelves) d s hd hs;
-      ends = refl;
+      round = record {
+        takes = t .calls;
+        refreshes = refreshes;
+        ticks = ticks;
+        are-takes = t .each;
+        are-refreshes = grid-each IsRefresh refresh (π .depots) (π .shelves) (λ d s. a-refresh);
+        are-ticks = grid-each IsTick tick (π .depots) (π .shelves) (λ d s. a-tick);
+        emptied = λ d s o hd hs ho n. take-none π _ d s o hd hs (record { below = ho; apart = n }) (t .then d hd s hs o ho n);
+        refreshed = λ d s hd hs. grid-has refresh (π .depots) (π .shelves) d s hd hs;
+        ticked = λ d s hd hs. grid-has tick (π .depots) (π .shelves) d s hd hs;
+        ends = refl;
+      };
+      refreshes = grid-length refresh (π .depots) (π .shelves);
+      ticks = grid-length tick (π .depots) (π .shelves);
     },
   )
     where

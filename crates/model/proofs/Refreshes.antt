@@ -12,7 +12,9 @@ use borrow.Author.Tests.{lt-leb}
 use Rattle.order.specs.Loops.{pick}
 use Rattle.model.specs.Parts.{Counts, Write, Message, Shelf, State, stamp}
 use Rattle.model.specs.Rules.{settle, clear, lowestSeen}
-use Rattle.model.specs.Calls.{Call, refresh, first, refusal, acted, run}
+use Rattle.paper.specs.Calls.{Call, refresh, first}
+use Rattle.model.specs.Calls.{refusal, acted}
+use Rattle.model.specs.System.{ofModel, run}
 use Rattle.model.specs.Demands.{Made, IsRefresh, a-refresh, Each}
 use Rattle.model.proofs.Places.{Other, setShelf-all, setShelf-same, setShelf-here, lowest-above}
 use Rattle.model.proofs.Chains.{chain-below, chain-empty}
@@ -70,13 +72,13 @@ module _ (π : Counts) (homes : List ℕ) where
         σ : State
         σ = run π homes h
 
-        z : Sound π (Made π homes h) σ
+        z : Sound π (Made (ofModel π homes) h) σ
         z = inv π homes u h .sound
 
         left : List·Memᴰ w (σ .shelf d s .taken o) × (clear (π .depots) d (up (π .depots) d (lowestSeen π d σ) (σ .shelf d s)) w ≡ false)
         left = refresh-left h d s o w hd hs m
 
-        copied : Copied π (Made π homes h) s o w
+        copied : Copied π (Made (ofModel π homes) h) s o w
         copied = z .shelf d s hd hs .taken o w (a .below) (left .0)
 
         good : Good π σ w

@@ -3,18 +3,19 @@
 use Prim.Native.Nat.{ℕ, suc, _≤_, _<_}
 use native.Mathlib.Omega.{arith}
 use native.Mathlib.Nat.{mod-lt}
-use mathlib.Core.Path.{_≡_, refl, sym}
+use mathlib.Core.Path.{_≡_, refl, sym, _∙_}
 use mathlib.Core.Bool.{Bool, true, false, not, _&&_, _||_}
 use mathlib.Core.List.{List, [], _∷_}
 use lib.Dec.{eqb, ltb, leb}
 use lib.ListN.{getD, length}
-use borrow.Author.Tests.{eqb-false, ltb-true, ltb-false, leb-true, leb-false, le-ltb}
+use borrow.Author.Tests.{eqb-false, ltb-true, ltb-false, leb-true, leb-false, le-ltb, lt-leb, ne-eqb}
 use Rattle.order.specs.Loops.{pick, every}
 use Rattle.order.proofs.BoolLaws.{and-left, and-right, both-ways}
 use Rattle.order.proofs.LoopLaws.{every-at}
-use Rattle.model.specs.Parts.{Counts, State, mostBearings, fresh, end}
+use Rattle.model.specs.Parts.{Counts, Message, State, mostBearings, fresh, end}
 use Rattle.model.specs.Rules.{roomy}
-use Rattle.model.specs.Calls.{read, write, tick, take, refresh, first, none, within, setup, shelfOf, refusal}
+use Rattle.paper.specs.Calls.{read, write, tick, take, refresh, first}
+use Rattle.model.specs.Calls.{none, within, setup, shelfOf, refusal}
 use Rattle.model.proofs.Places.{Other}
 
 -- no number comes from the first test, and none from the rest
@@ -57,6 +58,27 @@ module _ (π : Counts) where
       let t = first-skips (leb end (σ .shelf (σ .home c) (shelfOf π k) .clock)) 10 8 _ w (λ n. omega arith) in
       let r = first-skips (not (roomy π (σ .home c) (shelfOf π k) σ)) 9 8 _ (t .1) (λ n. omega arith) in
       first-ends (r .1)
+
+  pub take-passes : (σ : State) (d s o : ℕ) (m : Message) (l : List Message) → d < π .depots → s < π .shelves → Other (π .depots) d o → σ .shelf d s .untaken o ≡ m ∷ l → refusal π σ (take d s o) ≡ 0
+  unfolding refusal first pick none
+  take-passes σ d s o m l hd hs a e = rw (lt-leb (π .depots) d hd, lt-leb (π .depots) o (a .below), lt-leb (π .shelves) s hs, ne-eqb d o (λ f. a .apart (sym f)), e) refl
+
+  -- an empty link answers EMPTY LINK, and only an empty one does
+  pub take-none : (σ : State) (d s o : ℕ) → d < π .depots → s < π .shelves → Other (π .depots) d o → σ .shelf d s .untaken o ≡ [] → refusal π σ (take d s o) ≡ 7
+  unfolding refusal first pick none
+  take-none σ d s o hd hs a e = rw (lt-leb (π .depots) d hd, lt-leb (π .depots) o (a .below), lt-leb (π .shelves) s hs, ne-eqb d o (λ f. a .apart (sym f)), e) refl
+
+  pub take-seven : (σ : State) (d s o : ℕ) → d < π .depots → s < π .shelves → Other (π .depots) d o → refusal π σ (take d s o) ≡ 7 → σ .shelf d s .untaken o ≡ []
+  take-seven σ d s o hd hs a e = by (σ .shelf d s .untaken o) refl
+    where
+      by : (l : List Message) → σ .shelf d s .untaken o ≡ l → l ≡ []
+      by [] t = refl
+      by (m ∷ l) t = absurd (let z : _≡_ {A = ℕ} 0 7 = sym (take-passes σ d s o m l hd hs a t) ∙ e in omega arith)
+
+  -- who waits is a crew
+  pub waits-crew : (σ : State) (c k v : ℕ) → refusal π σ (write c k v) ≡ 8 → c < π .crews
+  unfolding refusal
+  waits-crew σ c k v e = leb-false _ _ (first-skips (leb (π .crews) c) 5 8 _ e (λ n. omega arith) .0)
 
   pub record ReadPassed (c k : ℕ) : Type 0 where
     pub crew : c < π .crews

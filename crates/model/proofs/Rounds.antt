@@ -6,25 +6,27 @@ use native.Mathlib.Nat.{le-trans}
 use mathlib.Core.Path.{_≡_, sym, subst}
 use mathlib.Core.List.{List, [], _∷_, _++_, List·Memᴰ, List·Memᴰ·not-nil}
 use Rattle.model.specs.Parts.{Counts, Write, copy, stamp, end}
-use Rattle.model.specs.Calls.{Call, shelfOf, run}
+use Rattle.paper.specs.Calls.{Call}
+use Rattle.model.specs.Calls.{shelfOf}
+use Rattle.model.specs.System.{ofModel, run}
 use Rattle.model.specs.Demands.{Made, Round, Rounds, begin, between, round, lowestClock}
 use Rattle.model.proofs.Places.{Other, lowest-below, lowest-end}
 use Rattle.model.proofs.Showing.{AtMost, atMost-trans}
-use Rattle.model.proofs.Invariant.{Stands, stored, held, coming, Grows, grows-refl, grows-trans}
-use Rattle.model.proofs.Refusals.{SetUp, shelf-below}
+use Rattle.model.proofs.Invariant.{Stands, stored, held, coming}
+use Rattle.model.proofs.Refusals.{SetUp, shelf-below, take-seven}
 use Rattle.model.proofs.Histories.{inv, history-grows, call-changes, made-more}
 use Rattle.model.proofs.Refreshes.{Empty, Reached, Late, reached-later, refreshes-empty, refreshes-late}
 use Rattle.model.proofs.Ticks.{ticks-reach}
 
 module _ (π : Counts) (homes : List ℕ) (u : SetUp π homes) where
-  module _ {g h : List Call} (r : Round π homes g h) where
+  module _ {g h : List Call} (r : Round π (ofModel π homes) g h) where
     -- the history before the ticks
     abbrev settledAt : List Call
     settledAt = r .refreshes ++ (r .takes ++ g)
 
     round-empty : Empty π homes (r .takes ++ g)
     unfolding Empty
-    round-empty = r .emptied
+    round-empty = λ d s o hd hs ho n. take-seven π _ d s o hd hs (record { below = ho; apart = n }) (r .emptied d s o hd hs ho n)
 
     round-late : (o b : ℕ) → Reached π homes g o b → (e s : ℕ) → e < π .depots → s < π .shelves → Other (π .depots) e o → Late π homes settledAt e s o b
     round-late o b t e s he hs a = refreshes-late π homes u (r .refreshes) (r .takes ++ g) e s o b he hs a (r .are-refreshes) round-empty (reached-later π homes u (r .takes) g o b t)
@@ -35,18 +37,14 @@ module _ (π : Counts) (homes : List ℕ) (u : SetUp π homes) where
         (ticks-reach π o b homes u ho (r .ticks) settledAt (r .are-ticks) (λ s hs. r .ticked o s ho hs) (refreshes-empty π homes u (r .refreshes) (r .takes ++ g) (r .are-refreshes) round-empty)
         (reached-later π homes u (r .refreshes) (r .takes ++ g) o b (reached-later π homes u (r .takes) g o b t)) (round-late o b t))
 
-    pub round-grows : Grows π (run π homes g) (run π homes h)
-    round-grows = subst (λ h. Grows π (run π homes g) (run π homes h)) (sym (r .ends))
-        (grows-trans π (history-grows π homes u (r .takes) g) (grows-trans π (history-grows π homes u (r .refreshes) (r .takes ++ g)) (history-grows π homes u (r .ticks) settledAt)))
-
-    made-on : (l : List Call) {f : List Call} {w : Write} → Made π homes f w → Made π homes (l ++ f) w
+    made-on : (l : List Call) {f : List Call} {w : Write} → Made (ofModel π homes) f w → Made (ofModel π homes) (l ++ f) w
     made-on [] m = m
     made-on (q ∷ l) m = made-more π homes _ (made-on l m)
 
-    pub round-made : {w : Write} → Made π homes g w → Made π homes h w
-    round-made {w} m = subst (λ h. Made π homes h w) (sym (r .ends)) (made-on (r .ticks) (made-on (r .refreshes) (made-on (r .takes) m)))
+    pub round-made : {w : Write} → Made (ofModel π homes) g w → Made (ofModel π homes) h w
+    round-made {w} m = subst (λ h. Made (ofModel π homes) h w) (sym (r .ends)) (made-on (r .ticks) (made-on (r .refreshes) (made-on (r .takes) m)))
 
-    pub round-delivers : (b : ℕ) (w : Write) → Made π homes g w → Reached π homes g (w .version .origin) b → stamp (w .version) ≤ b → (d : ℕ) → d < π .depots
+    pub round-delivers : (b : ℕ) (w : Write) → Made (ofModel π homes) g w → Reached π homes g (w .version .origin) b → stamp (w .version) ≤ b → (d : ℕ) → d < π .depots
         → AtMost (π .depots) (w .version) (run π homes h .shelf d (shelfOf π (w .bearing)) .store (w .bearing))
     unfolding Late Empty
     round-delivers b w m t low d hd = subst (λ h. AtMost (π .depots) (w .version) (run π homes h .shelf d (shelfOf π (w .bearing)) .store (w .bearing))) (sym (r .ends))
@@ -61,33 +59,29 @@ module _ (π : Counts) (homes : List ℕ) (u : SetUp π homes) where
         by (coming o i) = absurd (List·Memᴰ·not-nil (subst (λ l. List·Memᴰ (copy w) l)
             (empty d (shelfOf π (w .bearing)) (w .version .origin) hd (shelf-below π u (w .bearing)) (o .below) (o .apart)) i))
 
-  pub rounds-reach : {n : ℕ} {g h : List Call} → Rounds π homes n g h → (o b : ℕ) → o < π .depots → b ≤ end → Reached π homes g o b → Reached π homes h o (min (b + n) end)
+  pub rounds-reach : {n : ℕ} {g h : List Call} → Rounds π (ofModel π homes) n g h → (o b : ℕ) → o < π .depots → b ≤ end → Reached π homes g o b → Reached π homes h o (min (b + n) end)
   unfolding Reached
   rounds-reach begin o b ho top t s hs = let a = t s hs in omega arith
   rounds-reach (between {h = h} {q = q} r) o b ho top t s hs = le-trans (rounds-reach r o b ho top t s hs) (call-changes π homes u h q .grows .clock o s)
   rounds-reach (round {n = n} r i) o b ho top t s hs = let a = round-reaches i o (min (b + n) end) ho (rounds-reach r o b ho top t) s hs in omega arith
 
-  pub rounds-grow : {n : ℕ} {g h : List Call} → Rounds π homes n g h → Grows π (run π homes g) (run π homes h)
-  rounds-grow begin = grows-refl π
-  rounds-grow (between {h = h} {q = q} r) = grows-trans π (rounds-grow r) (call-changes π homes u h q .grows)
-  rounds-grow (round r i) = grows-trans π (rounds-grow r) (round-grows i)
-
-  pub rounds-made : {n : ℕ} {g h : List Call} {w : Write} → Rounds π homes n g h → Made π homes g w → Made π homes h w
+  pub rounds-made : {n : ℕ} {g h : List Call} {w : Write} → Rounds π (ofModel π homes) n g h → Made (ofModel π homes) g w → Made (ofModel π homes) h w
   rounds-made begin m = m
   rounds-made (between r) m = made-more π homes _ (rounds-made r m)
   rounds-made (round r i) m = round-made i (rounds-made r m)
 
   -- the clocks of depot o are at least their lowest
-  pub lowest-reached : (g : List Call) (o : ℕ) → Reached π homes g o (lowestClock π homes g o)
+  pub lowest-reached : (g : List Call) (o : ℕ) → Reached π homes g o (lowestClock π (ofModel π homes) g o)
   unfolding Reached lowestClock
   lowest-reached g o s hs = lowest-below (π .shelves) _ s hs
 
-  pub lowest-top : (g : List Call) (o : ℕ) → lowestClock π homes g o ≤ end
+  pub lowest-top : (g : List Call) (o : ℕ) → lowestClock π (ofModel π homes) g o ≤ end
   unfolding lowestClock
   lowest-top g o = lowest-end (π .shelves) _
 
-  pub rounds-deliver : {m n : ℕ} {g h : List Call} → Rounds π homes m g h → m ≡ suc n → (w : Write) → Made π homes g w → (b : ℕ) → b ≤ end → Reached π homes g (w .version .origin) b
-      → stamp (w .version) ≤ b + n → (d : ℕ) → d < π .depots → AtMost (π .depots) (w .version) (run π homes h .shelf d (shelfOf π (w .bearing)) .store (w .bearing))
+  pub rounds-deliver : {m n : ℕ} {g h : List Call} → Rounds π (ofModel π homes) m g h → m ≡ suc n → (w : Write) → Made (ofModel π homes) g w → (b : ℕ) → b ≤ end
+      → Reached π homes g (w .version .origin) b → stamp (w .version) ≤ b + n
+      → (d : ℕ) → d < π .depots → AtMost (π .depots) (w .version) (run π homes h .shelf d (shelfOf π (w .bearing)) .store (w .bearing))
   rounds-deliver begin e w m b top t low d hd = absurd (omega arith)
   rounds-deliver (between {h = h} {q = q} r) e w m b top t low d hd = atMost-trans (rounds-deliver r e w m b top t low d hd) (call-changes π homes u h q .grows .store d _ _)
   rounds-deliver {g = g} (round {n = k} {h = h} r i) e w m b top t low d hd =

@@ -72,7 +72,6 @@ module _ (π : Counts) (σ : State) (d s : ℕ) (m : Message) where
       seen = λ e r x. le-of (send-same (λ v u k t. u x) e r);
       store = λ e r j. atMost-same (sym (send-same (λ v u k t. k j) e r));
       crew = λ c x. le-refl _;
-      home = λ c. refl;
     }
       where
         le-of : {x y : ℕ} → x ≡ y → y ≤ x

@@ -98,7 +98,6 @@ module _ (π : Counts) (M : Write → Type 0) (σ : State) (z : Sound π M σ) (
     store = setShelf-all (λ e r g. (k : ℕ) → AtMost (π .depots) (σ .shelf e r .store k) (g .store k)) d s new σ
         (settled-rises (π .depots) d u old) (λ e r apart k. atMost-refl);
     crew = λ c x. le-refl _;
-    home = λ c. refl;
   }
     where
       le-of : {a b : ℕ} → a ≡ b → b ≤ a

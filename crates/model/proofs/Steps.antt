@@ -12,7 +12,8 @@ use Rattle.order.proofs.VectorLaws.{zeros-at}
 use Rattle.order.proofs.BoolLaws.{eq-or-ne}
 use Rattle.model.specs.Parts.{Counts, Version, Write, Message, copy, heartbeat, Shelf, State, stamp, stampOf, setShelf, setCrew, end}
 use Rattle.model.specs.Rules.{settle, storing, keep, send, taking, lowestSeen}
-use Rattle.model.specs.Calls.{read, write, tick, take, refresh, none, shelfOf, homeShelf, answered, made, reading, acted}
+use Rattle.paper.specs.Calls.{read, write, tick, take, refresh}
+use Rattle.model.specs.Calls.{none, shelfOf, homeShelf, answered, made, reading, acted}
 use Rattle.model.proofs.Places.{put-all, put-same, put-other, Other, setShelf-here, lowest-below}
 use Rattle.model.proofs.Showing.{AtMost, atMost-trans}
 use Rattle.model.proofs.Invariant.{Rests, stored, coming, Good, Copied, ShelfSound, Sound, Change, changes, good-changes, rests-grows, sound-more, grows-trans}

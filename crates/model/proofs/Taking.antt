@@ -53,7 +53,6 @@ module _ (π : Counts) (M : Write → Type 0) (σ : State) (z : Sound π M σ) (
         (λ c r apart x. le-refl _);
     store = λ c r k. atMost-same (sym (same (λ c v f. f k) c r));
     crew = λ c x. le-refl _;
-    home = λ c. refl;
   }
     where
       le-of : {x y : ℕ} → x ≡ y → y ≤ x

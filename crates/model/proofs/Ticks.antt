@@ -13,7 +13,9 @@ use Rattle.order.specs.Loops.{pick}
 use Rattle.order.proofs.BoolLaws.{eq-or-ne, le-or-lt}
 use Rattle.model.specs.Parts.{Counts, Write, Message, heartbeat, State, stamp, end}
 use Rattle.model.specs.Rules.{holds, roomy, send}
-use Rattle.model.specs.Calls.{Call, tick, first, refusal, acted, run}
+use Rattle.paper.specs.Calls.{Call, tick, first}
+use Rattle.model.specs.Calls.{refusal, acted}
+use Rattle.model.specs.System.{ofModel, run}
 use Rattle.model.specs.Demands.{Made, IsTick, a-tick, Each}
 use Rattle.model.proofs.Places.{Other}
 use Rattle.model.proofs.Invariant.{Copied}
@@ -78,7 +80,7 @@ module _ (π : Counts) (o b : ℕ) where
       where
         held : run π homes h .shelf o s .clock < suc b → (e : ℕ) → Other (π .depots) e o → (w : Write) → e < π .depots → List·Memᴰ w (run π homes h .shelf e s .taken o) → ⊥
         held t e a w he m =
-            let c : Copied π (Made π homes h) s o w = inv π homes u h .sound .shelf e s he hs .taken o w ho m in
+            let c : Copied π (Made (ofModel π homes) h) s o w = inv π homes u h .sound .shelf e s he hs .taken o w ho m in
             let g : stamp (w .version) ≤ run π homes h .shelf o s .clock = subst₂ (λ x y. stamp (w .version) ≤ run π homes h .shelf x y .clock) (c .origin) (c .shelf)
             (inv π homes u h .good w (c .made) .clock) in
             let l = late e s he hs a w m in

@@ -6,39 +6,41 @@ use native.Mathlib.Omega.{arith}
 use mathlib.Core.Path.{_≡_, refl, sym, subst, subst₂, ap, _∙_}
 use mathlib.Core.Logic.{_⊎_, inl, inr, ⊎-elim}
 use mathlib.Core.Bool.{true, false}
-use mathlib.Core.List.{List, [], _∷_}
+use mathlib.Core.List.{List, [], _∷_, _++_}
 use Rattle.order.specs.Vector.{zeros}
 use Rattle.order.specs.Order.{above}
 use Rattle.order.proofs.BoolLaws.{both-ways, decided}
 use Rattle.order.proofs.VectorLaws.{written-at}
 use Rattle.order.proofs.OrderLaws.{above-total, above-written}
 use Rattle.model.specs.Parts.{Counts, Version, Write, rank, stamp}
-use Rattle.model.specs.Calls.{Call, write, shelfOf, made, run}
+use Rattle.paper.specs.Calls.{Call, write, tick}
+use Rattle.model.specs.Calls.{shelfOf, made}
+use Rattle.model.specs.System.{ofModel, run}
 use Rattle.model.specs.Demands.{Wrote, MadeAt, now, earlier, Made, AtLeast}
 use Rattle.model.proofs.Places.{put-same}
 use Rattle.model.proofs.Showing.{AtMost}
 use Rattle.model.proofs.Refusals.{SetUp}
-use Rattle.model.proofs.Histories.{made-cases, made-never, inv}
+use Rattle.model.proofs.Histories.{made-cases, made-never, inv, history-grows}
 
 module _ (π : Counts) (homes : List ℕ) where
   -- what the last call wrote has the new clock of its shelf for its stamp
-  wrote-stamp : {h : List Call} {q : Call} {c : ℕ} {w : Write} → Wrote π homes h q c w
+  wrote-stamp : {h : List Call} {q : Call} {c : ℕ} {w : Write} → Wrote (ofModel π homes) h q c w
       → stamp (w .version) ≡ suc (run π homes h .shelf (w .version .origin) (shelfOf π (w .bearing)) .clock)
   unfolding made
-  wrote-stamp {h} {q} {c} {w} t = subst (λ (v : Version). stamp v ≡ suc (run π homes h .shelf (v .origin) (shelfOf π (w .bearing)) .clock)) (sym (t .version)) (put-same _ _ _)
+  wrote-stamp {h} {q} {c} {w} t = subst (λ (v : Version). stamp v ≡ suc (run π homes h .shelf (v .origin) (shelfOf π (w .bearing)) .clock)) (sym (t .makes .2)) (put-same _ _ _)
 
   -- two writes that the last call wrote are one
-  wrote-one : {h : List Call} {q : Call} {b c : ℕ} {v w : Write} → Wrote π homes h q b v → Wrote π homes h q c w → v ≡ w
+  wrote-one : {h : List Call} {q : Call} {b c : ℕ} {v w : Write} → Wrote (ofModel π homes) h q b v → Wrote (ofModel π homes) h q c w → v ≡ w
   wrote-one {h} {q} {b} {c} {v} {w} s t =
-      let one : q ≡ write b (v .bearing) (s .value) = s .call in
-      let two : q ≡ write c (w .bearing) (t .value) = t .call in
+      let one : q ≡ write b (v .bearing) (s .makes .0) = s .makes .1 in
+      let two : q ≡ write c (w .bearing) (t .makes .0) = t .makes .1 in
       let bearing : v .bearing ≡ w .bearing = cc in
-      let version : v .version ≡ w .version = cc (s .version, t .version) in
+      let version : v .version ≡ w .version = cc (s .makes .2, t .makes .2) in
       λ i. record { bearing = bearing i; version = version i }
 
   module _ (u : SetUp π homes) where
     -- what the last call wrote has a stamp above any made before on its shelf
-    wrote-later : {h : List Call} {q : Call} {c : ℕ} {v w : Write} → Wrote π homes h q c w → Made π homes h v → v .version .origin ≡ w .version .origin
+    wrote-later : {h : List Call} {q : Call} {c : ℕ} {v w : Write} → Wrote (ofModel π homes) h q c w → Made (ofModel π homes) h v → v .version .origin ≡ w .version .origin
         → shelfOf π (v .bearing) ≡ shelfOf π (w .bearing) → stamp (v .version) < stamp (w .version)
     wrote-later {h} {v = v} {w = w} t m origin shelf =
         let low : stamp (v .version) ≤ run π homes h .shelf (w .version .origin) (shelfOf π (w .bearing)) .clock
@@ -46,7 +48,16 @@ module _ (π : Counts) (homes : List ℕ) where
         let new = wrote-stamp t in
         omega arith
 
-    pub unique : (h : List Call) (v w : Write) → Made π homes h v → Made π homes h w → v .version .origin ≡ w .version .origin → shelfOf π (v .bearing) ≡ shelfOf π (w .bearing)
+    -- a write after a tick of its shelf has a stamp above the clock after that tick
+    pub beats : (l h : List Call) (d s : ℕ) (q : Call) (c : ℕ) (w : Write) → Wrote (ofModel π homes) (l ++ (tick d s ∷ h)) q c w → w .version .origin ≡ d → shelfOf π (w .bearing) ≡ s
+        → run π homes (tick d s ∷ h) .shelf d s .clock < stamp (w .version)
+    beats l h d s q c w t origin shelf =
+        let up = history-grows π homes u l (tick d s ∷ h) .clock d s in
+        let new : stamp (w .version) ≡ suc (run π homes (l ++ (tick d s ∷ h)) .shelf d s .clock)
+        = subst₂ (λ d′ s′. stamp (w .version) ≡ suc (run π homes (l ++ (tick d s ∷ h)) .shelf d′ s′ .clock)) origin shelf (wrote-stamp t) in
+        omega arith
+
+    pub unique : (h : List Call) (v w : Write) → Made (ofModel π homes) h v → Made (ofModel π homes) h w → v .version .origin ≡ w .version .origin → shelfOf π (v .bearing) ≡ shelfOf π (w .bearing)
         → stamp (v .version) ≡ stamp (w .version) → v ≡ w
     unique [] v w m n origin shelf same = absurd (made-never π homes m)
     unique (q ∷ h) v w m n origin shelf same = ⊎-elim
@@ -54,16 +65,16 @@ module _ (π : Counts) (homes : List ℕ) where
         (λ m. ⊎-elim (λ t. absurd (let late = wrote-later (t .1) m origin shelf in omega arith)) (λ n. unique h v w m n origin shelf same) (made-cases π homes n))
         (made-cases π homes m)
 
-    made-written : (h : List Call) (w : Write) → Made π homes h w → zeros (π .depots) (w .version .vector) ≡ false
+    made-written : (h : List Call) (w : Write) → Made (ofModel π homes) h w → zeros (π .depots) (w .version .vector) ≡ false
     made-written h w m = written-at (π .depots) (w .version .vector) (w .version .origin) (inv π homes u h .good w m .rests .depot) (positive (m .at))
       where
-        positive : {f g : List Call} {c : ℕ} → MadeAt π homes f g c w → 0 < stamp (w .version)
+        positive : {f g : List Call} {c : ℕ} → MadeAt (ofModel π homes) f g c w → 0 < stamp (w .version)
         positive (now t) = let new = wrote-stamp t in omega arith
         positive (earlier t) = positive t
 
     -- a version that is not below a write made to its bearing, and is unwritten or was made itself
-    pub at-least : (h : List Call) (v : Version) (w : Write) → Made π homes h w → AtMost (π .depots) (w .version) v
-        → (zeros (π .depots) (v .vector) ≡ true) ⊎ Made π homes h (record { bearing = w .bearing; version = v }) → AtLeast (π .depots) v (w .version)
+    pub at-least : (h : List Call) (v : Version) (w : Write) → Made (ofModel π homes) h w → AtMost (π .depots) (w .version) v
+        → (zeros (π .depots) (v .vector) ≡ true) ⊎ Made (ofModel π homes) h (record { bearing = w .bearing; version = v }) → AtLeast (π .depots) v (w .version)
     at-least h v w m low from = ⊎-elim
         (λ (e : zeros (π .depots) (v .vector) ≡ true). absurd (both-ways (above-written (π .depots) (rank (w .version)) (rank v) (made-written h w m) e) (low .holds)))
         (λ n. ⊎-elim
@@ -72,7 +83,7 @@ module _ (π : Counts) (homes : List ℕ) where
         (decided (above (π .depots) (rank v) (rank (w .version)))))
         from
       where
-        same : Made π homes h (record { bearing = w .bearing; version = v }) → above (π .depots) (rank v) (rank (w .version)) ≡ false → v ≡ w .version
+        same : Made (ofModel π homes) h (record { bearing = w .bearing; version = v }) → above (π .depots) (rank v) (rank (w .version)) ≡ false → v ≡ w .version
         same n e =
             let it : Write = record { bearing = w .bearing; version = v } in
             let equal = above-total (π .depots) (rank v) (rank (w .version)) (made-written h it n) (made-written h w m) e (low .holds) in

@@ -10,7 +10,9 @@ use Rattle.order.specs.Loops.{pick}
 use Rattle.order.specs.Order.{Rank, above}
 use Rattle.order.proofs.OrderCases.{above-case}
 use Rattle.model.specs.Parts.{State, fresh}
-use Rattle.model.specs.Calls.{tick, take, answers, step, run}
+use Rattle.paper.specs.Calls.{tick, take}
+use Rattle.model.specs.Calls.{answers, step}
+use Rattle.model.specs.System.{after, run}
 use Rattle.model.specs.Cases.{counts, homes, listingToB, listing, listingAnswers, stableAfter, caseD, caseDAnswers}
 use Rattle.model.specs.Cases.{caseE, caseEAnswers, caseF, caseFAnswers, manyTicks, manyDone, caseG, caseGAnswers, clockAfter}
 use Rattle.model.proofs.Lawful.{dominates, lawful, lawful-agrees, like, knowing, knowing-agrees}
@@ -56,9 +58,9 @@ caseG-holds = answers-computed counts lawful lawful-agrees (fresh homes) caseG �
 
 -- after the tick that is refused the clock is still 16, after the one that passes it is 17
 pub caseG-full : clockAfter (manyTicks 17) ≡ 16
-unfolding answersNow counts homes manyTicks clockAfter run step
+unfolding answersNow counts homes manyTicks clockAfter after step
 caseG-full = refl
 
 pub caseG-again : clockAfter (tick 0 0 ∷ (take 1 0 0 ∷ manyTicks 17)) ≡ 17
-unfolding answersNow counts homes manyTicks clockAfter run step
+unfolding answersNow counts homes manyTicks clockAfter after step
 caseG-again = refl

@@ -1,33 +1,17 @@
--- The calls: what each answers and leaves, when it is refused, and histories of calls from a fresh register.
+-- The calls: what each answers and leaves, when it is refused.
 -- Assumes nothing.
 use Prim.Native.Nat.{ℕ, zero, suc, _%_}
 use mathlib.Core.Bool.{Bool, true, false, _||_, not, _&&_}
 use mathlib.Core.List.{List, [], _∷_, _++_}
 use lib.Dec.{eqb, ltb, leb}
 use lib.ListN.{length, getD}
+use Rattle.paper.specs.Calls.{Call, read, write, tick, take, refresh, Told, read-value, read-unwritten, Answer, refused, done, reads, current, superseded, first}
 use Rattle.order.specs.Loops.{every, pick}
 use Rattle.order.specs.Vector.{Vec, merged, zeros}
 use Rattle.order.specs.Order.{above}
 use Rattle.model.specs.Parts.{mostDepots, mostShelves, mostBearings, mostCrews}
-use Rattle.model.specs.Parts.{Counts, Version, Write, Message, copy, heartbeat, Shelf, State, put, rank, fresh, setShelf, setCrew, end}
+use Rattle.model.specs.Parts.{Counts, Version, Write, Message, copy, heartbeat, Shelf, State, put, rank, setShelf, setCrew, end}
 use Rattle.model.specs.Rules.{settled, settle, keep, send, roomy, taking, lowestSeen}
-
--- read (crew, bearing), write (crew, bearing, value), tick (depot, shelf), take (at depot, shelf, from depot), refresh (depot, shelf)
-pub data Call : Type 0 where
-  read : ℕ → ℕ → Call
-  write : ℕ → ℕ → ℕ → Call
-  tick : ℕ → ℕ → Call
-  take : ℕ → ℕ → ℕ → Call
-  refresh : ℕ → ℕ → Call
-
--- a refusal carries its number and nothing else; a read answers the value or "unwritten", with the vector; a write its stamp, and
--- "current" or "superseded"
-pub data Answer : Type 0 where
-  refused : ℕ → Answer
-  done : Answer
-  read-value : ℕ → List ℕ → Answer
-  read-unwritten : List ℕ → Answer
-  current superseded : ℕ → Answer
 
 -- an answer and the state after it
 pub record Outcome : Type 0 where
@@ -39,14 +23,9 @@ unfoldable pub entries : ℕ → Vec → List ℕ
 entries zero u = []
 entries (suc i) u = entries i u ++ (u i ∷ [])
 
--- a read's answer to the stored version v
-unfoldable pub told : ℕ → Version → Answer
+-- what is told of the stored version v, with n depots
+unfoldable pub told : ℕ → Version → Told
 told n v = pick (zeros n (v .vector)) (read-unwritten (entries n (v .vector))) (read-value (v .value) (entries n (v .vector)))
-
--- the number of the first test that holds, 0 where none does
-unfoldable pub first : List (Bool × ℕ) → ℕ
-first [] = 0
-first (t ∷ l) = pick (t .0) (t .1) (first l)
 
 -- no untaken message
 unfoldable pub none : List Message → Bool
@@ -117,7 +96,7 @@ module _ (π : Counts) where
   -- a read, its home shelf h raised and shown: it answers what h stores, and the crew's vector becomes the entrywise maximum with it
   unfoldable pub reading : ℕ → ℕ → State → Shelf → Outcome
   reading c k σ h = record {
-    answer = told (π .depots) (h .store k);
+    answer = reads (told (π .depots) (h .store k));
     state = setCrew c (merged (σ .crew c) (h .store k .vector)) (setShelf (σ .home c) (shelfOf k) h σ);
   }
 
@@ -149,11 +128,6 @@ module _ (π : Counts) where
   -- a call: a refused one changes nothing
   unfoldable pub step : State → Call → Outcome
   step σ q = pick (eqb (refusal σ q) 0) (acted σ q) (record { answer = refused (refusal σ q); state = σ })
-
-  -- what a history of calls, newest first, leaves of a fresh register
-  unfoldable pub run : List ℕ → List Call → State
-  run homes [] = fresh homes
-  run homes (q ∷ h) = step (run homes h) q .state
 
   -- the answers to calls, oldest first
   unfoldable pub answers : State → List Call → List Answer

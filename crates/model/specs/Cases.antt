@@ -2,8 +2,10 @@
 -- Assumes nothing.
 use Prim.Native.Nat.{ℕ, zero, suc}
 use mathlib.Core.List.{List, [], _∷_, _++_}
-use Rattle.model.specs.Parts.{Counts, fresh}
-use Rattle.model.specs.Calls.{Call, read, write, tick, take, refresh, Answer, refused, done, read-value, read-unwritten, current, superseded, run, ends}
+use Rattle.model.specs.Parts.{Counts, Write, fresh}
+use Rattle.paper.specs.Calls.{Call, read, write, tick, take, refresh, Answer, refused, done, reads, read-value, read-unwritten, current, superseded}
+use Rattle.model.specs.Calls.{made, ends}
+use Rattle.model.specs.System.{run}
 
 -- S 2 2 4 2 0 1: two depots, two shelves, four bearings, two crews with homes 0 and 1
 unfoldable pub counts : Counts
@@ -30,10 +32,10 @@ listing = listingToB ++ (read 1 0 ∷ [])
 
 unfoldable pub listingAnswers : List Answer
 listingAnswers =
-    read-unwritten (pair 0 0) ∷ (current 1 ∷ (refused 8 ∷ (done ∷ (current 2 ∷ (done ∷ (done ∷ (read-unwritten (pair 0 0) ∷ (done ∷ (done ∷ (read-value 20 (pair 1 0)
-    ∷ (done ∷ (done ∷ (read-unwritten (pair 0 0)
-    ∷ (done ∷ (done ∷ (done ∷ (read-value 30 (pair 2 0)
-    ∷ (read-value 20 (pair 1 0)
+    reads (read-unwritten (pair 0 0)) ∷ (current 1 ∷ (refused 8 ∷ (done ∷ (current 2 ∷ (done ∷ (done ∷ (reads (read-unwritten (pair 0 0)) ∷ (done ∷ (done ∷ (reads (read-value 20 (pair 1 0))
+    ∷ (done ∷ (done ∷ (reads (read-unwritten (pair 0 0))
+    ∷ (done ∷ (done ∷ (done ∷ (reads (read-value 30 (pair 2 0))
+    ∷ (reads (read-value 20 (pair 1 0))
     ∷ []))))))))))))))))))
 
 -- (c) there shelf 0's stable entry for depot 0, at depot 1, rises from 1 to 2: it is this after calls, oldest first
@@ -56,8 +58,8 @@ caseE =
 
 unfoldable pub caseEAnswers : List Answer
 caseEAnswers =
-    read-unwritten (pair 0 0) ∷ (current 1 ∷ (refused 8 ∷ (done ∷ (current 2 ∷ (done ∷ (done ∷ (read-unwritten (pair 0 0) ∷ (done ∷ (done
-    ∷ (superseded 1 ∷ (read-value 20 (pair 1 0)
+    reads (read-unwritten (pair 0 0)) ∷ (current 1 ∷ (refused 8 ∷ (done ∷ (current 2 ∷ (done ∷ (done ∷ (reads (read-unwritten (pair 0 0)) ∷ (done ∷ (done
+    ∷ (superseded 1 ∷ (reads (read-value 20 (pair 1 0))
     ∷ [])))))))))))
 
 -- every shelf refreshed, then every shelf ticked
@@ -84,7 +86,7 @@ caseFAnswers =
     ++ (eightDone
     ++ ((done ∷ (refused 7 ∷ (done ∷ (refused 7 ∷ (done ∷ (refused 7 ∷ (done ∷ (refused 7 ∷ []))))))))
     ++ (eightDone
-    ++ (read-value 7 (pair 1 0) ∷ (read-value 7 (pair 1 0) ∷ []))))))
+    ++ (reads (read-value 7 (pair 1 0)) ∷ (reads (read-value 7 (pair 1 0)) ∷ []))))))
 
 -- (g) fresh: 16 ticks of depot 0 shelf 0 pass; the 17th is LINK FULL, clock still 16; one take, and the tick passes, clock 17
 unfoldable pub manyTicks : ℕ → List Call
@@ -104,3 +106,52 @@ caseGAnswers = manyDone 16 ++ (refused 9 ∷ (done ∷ (done ∷ [])))
 -- the clock of depot 0 shelf 0 after a history, newest call first
 unfoldable pub clockAfter : List Call → ℕ
 clockAfter h = run counts homes h .shelf 0 0 .clock
+
+-- ---- the causal rule and rounds, worked; histories have their newest call first
+
+-- crew 0 writes 20 to bearing 0, then 30 to bearing 1, which so rests on it
+unfoldable pub twentyWritten : List Call
+twentyWritten = tick 0 1 ∷ (write 0 0 20 ∷ [])
+
+-- both are sent to depot 1, and shown there as far as they are covered
+unfoldable pub thirtySent : List Call
+thirtySent = refresh 1 1 ∷ (take 1 0 0 ∷ (tick 0 0 ∷ (take 1 1 0 ∷ (take 1 1 0 ∷ (take 1 0 0 ∷ (write 0 1 30 ∷ twentyWritten))))))
+
+-- crew 1 reads 30, and never reads bearing 0
+unfoldable pub thirtyRead : List Call
+thirtyRead = read 1 1 ∷ thirtySent
+
+unfoldable pub twenty : Write
+twenty = record { bearing = 0; version = made counts 0 0 20 (fresh homes) }
+
+unfoldable pub thirty : Write
+thirty = record { bearing = 1; version = made counts 0 1 30 (run counts homes twentyWritten) }
+
+-- (f) again: the two writes, and the calls of each of the two rounds
+unfoldable pub twoWrites : List Call
+twoWrites = write 1 0 9 ∷ (write 0 0 7 ∷ [])
+
+unfoldable pub firstTakes : List Call
+firstTakes = take 0 1 1 ∷ (take 0 0 1 ∷ (take 0 0 1 ∷ (take 1 1 0 ∷ (take 1 0 0 ∷ (take 1 0 0 ∷ [])))))
+
+unfoldable pub secondTakes : List Call
+secondTakes = take 0 1 1 ∷ (take 0 1 1 ∷ (take 0 0 1 ∷ (take 0 0 1 ∷ (take 1 1 0 ∷ (take 1 1 0 ∷ (take 1 0 0 ∷ (take 1 0 0 ∷ [])))))))
+
+unfoldable pub allRefreshed : List Call
+allRefreshed = refresh 1 1 ∷ (refresh 1 0 ∷ (refresh 0 1 ∷ (refresh 0 0 ∷ [])))
+
+unfoldable pub allTicked : List Call
+allTicked = tick 1 1 ∷ (tick 1 0 ∷ (tick 0 1 ∷ (tick 0 0 ∷ [])))
+
+unfoldable pub oneRound : List Call
+oneRound = allTicked ++ (allRefreshed ++ (firstTakes ++ twoWrites))
+
+unfoldable pub twoRounds : List Call
+twoRounds = allTicked ++ (allRefreshed ++ (secondTakes ++ oneRound))
+
+-- crew 0 has written, and waits at shelf 1, asking again and again
+unfoldable pub asked : List Call
+asked = write 0 0 20 ∷ []
+
+unfoldable pub askedAgain : List Call
+askedAgain = write 0 1 30 ∷ (write 0 1 30 ∷ asked)

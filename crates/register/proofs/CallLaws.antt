@@ -23,7 +23,7 @@ use Rattle.register.specs.declared.check.PlaceCheck.{PlaceCheck}
 use Rattle.register.specs.declared.check.AskCheck.{AskCheck}
 use Rattle.register.specs.declared.check.LinkCheck.{LinkCheck}
 use Rattle.register.specs.Answers.{refusalOf, answerOf, readRefused, writeRefused}
-use Rattle.register.specs.Table.{first}
+use Rattle.paper.specs.Calls.{first}
 use Rattle.register.specs.Checks.{placeOfNumber, askedOf, linkOfNumber}
 use Rattle.register.specs.Promises.{after}
 use Rattle.register.proofs.TableLaws.{chose-first, chose-second, first-stop, first-next}

@@ -16,7 +16,8 @@ use Rattle.book.specs.Layout.{end, bookWords, countsOf, home, crewVector, clock
 use Rattle.fit.specs.Fit.{countsFit}
 use Rattle.fit.specs.Named.{baseFit, tickFit, takeFit, refreshFit, readFit, writeFit}
 use Rattle.shelf.specs.Send.{roomy}
-use Rattle.register.specs.Table.{first, shelfOf, setupNumber, readNumber, writeNumber, tickNumber, takeNumber, refreshNumber}
+use Rattle.paper.specs.Calls.{first}
+use Rattle.register.specs.Table.{shelfOf, setupNumber, readNumber, writeNumber, tickNumber, takeNumber, refreshNumber}
 use Rattle.register.specs.Checks.{placeNumber, askedNumber}
 
 -- the first check was passed, and so were the rest
@@ -124,9 +125,9 @@ pub record WriteDone (l : List ℕ) (c k : ℕ) : Type 0 where
   pub clocked : clock l (home l c) (shelfOf l k) < end
   pub room : roomy (countsOf l .depots) (home l c) (shelfOf l k) l ≡ true
 
-pub write-done : (l : List ℕ) (c k : ℕ) → writeNumber l c k ≡ 0 → WriteDone l c k
+pub write-done : (l : List ℕ) (c k value : ℕ) → writeNumber l c k value ≡ 0 → WriteDone l c k
 unfolding writeNumber
-write-done l c k h =
+write-done l c k value h =
     let a = first-passed (not (writeFit l c k)) 1 _ (omega arith) h in
     let b = first-passed (leb (countsOf l .crews) c) 5 _ (omega arith) (a .1) in
     let e = first-passed (leb (countsOf l .bearings) k) 4 _ (omega arith) (b .1) in

@@ -11,7 +11,8 @@ use Rattle.book.specs.Layout.{end, countsOf, home, crewVector, clock, linkOf, h
 use Rattle.fit.specs.Named.{baseFit, tickParts, takeParts, refreshParts, readParts, writeParts, tickFit, takeFit, refreshFit, readFit, writeFit}
 use Rattle.fit.proofs.NamedLaws.{tick-named, take-named, refresh-named, read-named, write-named}
 use Rattle.shelf.specs.Send.{roomy}
-use Rattle.register.specs.Table.{first, shelfOf, readNumber, refreshNumber, tickNumber, takeNumber, writeNumber}
+use Rattle.paper.specs.Calls.{first}
+use Rattle.register.specs.Table.{shelfOf, readNumber, refreshNumber, tickNumber, takeNumber, writeNumber}
 use Rattle.register.specs.Checks.{placeNumber, askedNumber, linkNumber}
 use Rattle.register.proofs.TableLaws.{first-stop, first-next, first-none, two-bad, three-bad}
 
@@ -107,18 +108,18 @@ module _ (l : List ℕ) (d s from : ℕ) where
 
 -- ---- write
 
-module _ (l : List ℕ) (c k : ℕ) where
-  pub write-bad : eqb (askedNumber l c k) 0 ≡ false → writeNumber l c k ≡ askedNumber l c k
+module _ (l : List ℕ) (c k value : ℕ) where
+  pub write-bad : eqb (askedNumber l c k) 0 ≡ false → writeNumber l c k value ≡ askedNumber l c k
   unfolding askedNumber writeNumber writeFit
   write-bad h = two-bad (baseFit l) (leb (countsOf l .crews) c) (leb (countsOf l .bearings) k) _ _ _ _ h
 
-  pub write-book : baseFit l ≡ true → c < countsOf l .crews → k < countsOf l .bearings → writeParts (countsOf l) l c k ≡ false → writeNumber l c k ≡ 1
+  pub write-book : baseFit l ≡ true → c < countsOf l .crews → k < countsOf l .bearings → writeParts (countsOf l) l c k ≡ false → writeNumber l c k value ≡ 1
   unfolding writeNumber
   write-book f a b h = first-stop _ _ _ (not-failed (write-named l c k f a b ∙ h))
 
   module _ (f : writeFit l c k ≡ true) (hc : c < countsOf l .crews) (hk : k < countsOf l .bearings) where
     asked :
-        writeNumber l c k
+        writeNumber l c k value
         ≡ first
         ((ltb (clock l (home l c) (shelfOf l k)) (crewVector l c (home l c)), 8)
         ∷ (leb end (clock l (home l c) (shelfOf l k)), 10)
@@ -127,18 +128,18 @@ module _ (l : List ℕ) (c k : ℕ) where
     unfolding writeNumber
     asked = first-next _ _ _ (ap not f) ∙ first-next _ _ _ (lt-leb _ _ hc) ∙ first-next _ _ _ (lt-leb _ _ hk)
 
-    pub write-wait : clock l (home l c) (shelfOf l k) < crewVector l c (home l c) → writeNumber l c k ≡ 8
+    pub write-wait : clock l (home l c) (shelfOf l k) < crewVector l c (home l c) → writeNumber l c k value ≡ 8
     write-wait h = asked ∙ first-stop _ _ _ (lt-ltb _ _ h)
 
-    pub write-end : crewVector l c (home l c) ≤ clock l (home l c) (shelfOf l k) → end ≤ clock l (home l c) (shelfOf l k) → writeNumber l c k ≡ 10
+    pub write-end : crewVector l c (home l c) ≤ clock l (home l c) (shelfOf l k) → end ≤ clock l (home l c) (shelfOf l k) → writeNumber l c k value ≡ 10
     write-end h e = asked ∙ first-next _ _ _ (le-ltb _ _ h) ∙ first-stop _ _ _ (le-leb _ _ e)
 
     pub write-full :
         crewVector l c (home l c) ≤ clock l (home l c) (shelfOf l k) → clock l (home l c) (shelfOf l k) < end →
-        roomy (countsOf l .depots) (home l c) (shelfOf l k) l ≡ false → writeNumber l c k ≡ 9
+        roomy (countsOf l .depots) (home l c) (shelfOf l k) l ≡ false → writeNumber l c k value ≡ 9
     write-full h e r = asked ∙ first-next _ _ _ (le-ltb _ _ h) ∙ first-next _ _ _ (lt-leb _ _ e) ∙ first-stop _ _ _ (not-failed r)
 
     pub write-good :
         crewVector l c (home l c) ≤ clock l (home l c) (shelfOf l k) → clock l (home l c) (shelfOf l k) < end →
-        roomy (countsOf l .depots) (home l c) (shelfOf l k) l ≡ true → writeNumber l c k ≡ 0
+        roomy (countsOf l .depots) (home l c) (shelfOf l k) l ≡ true → writeNumber l c k value ≡ 0
     write-good h e r = asked ∙ first-next _ _ _ (le-ltb _ _ h) ∙ first-next _ _ _ (lt-leb _ _ e) ∙ first-next _ _ _ (ap not r) ∙ first-none

@@ -11,16 +11,10 @@ use Rattle.order.specs.Loops.{pick}
 use Rattle.order.proofs.BoolLaws.{decided, pick-true, pick-false, not-failed}
 use Rattle.book.specs.Layout.{countsOf}
 use Rattle.fit.specs.Named.{baseFit}
-use Rattle.register.specs.Table.{first}
+use Rattle.paper.specs.Calls.{first, Says, here, later, otherwise}
 use Rattle.register.specs.Checks.{placeNumber, askedNumber}
 
 -- ---- exactly when
-
--- the table's rows say the number n: at a row whose test holds, its number; past rows whose tests fail; 0 past the last
-pub data Says : List (Bool × ℕ) → ℕ → Type 0 where
-  here : {t : Bool} {n : ℕ} {rest : List (Bool × ℕ)} → t ≡ true → Says ((t, n) ∷ rest) n
-  later : {t : Bool} {m n : ℕ} {rest : List (Bool × ℕ)} → t ≡ false → Says rest n → Says ((t, m) ∷ rest) n
-  otherwise : Says [] 0
 
 pub first-stop : (t : Bool) (n : ℕ) (rest : List (Bool × ℕ)) → t ≡ true → first ((t, n) ∷ rest) ≡ n
 unfolding first

@@ -10,7 +10,7 @@ use borrow.Author.Tests.{le-leb, lt-leb, leb-false, not-false}
 use Rattle.order.proofs.BoolLaws.{not-failed, or-left, or-right, or-next}
 use Rattle.book.specs.Layout.{countsOf}
 use Rattle.fit.specs.Named.{baseFit}
-use Rattle.register.specs.Table.{first}
+use Rattle.paper.specs.Calls.{first}
 use Rattle.register.specs.Checks.{linkNumber}
 use Rattle.register.proofs.TableLaws.{first-stop, first-next, first-none}
 use Rattle.register.proofs.Numbers.{first-passed, or-none}

@@ -67,7 +67,7 @@ module _ (n d k : ℕ) (l r : List ℕ) {to : ℕ} {b : Bool} (et : to ≡ store
 
 -- ---- the whole write
 
-module _ (l : List ℕ) (c k value : ℕ) {n d s stamp : ℕ} (M : MayWrite l c k n d s stamp) where
+module _ (l : List ℕ) (c k value : ℕ) {n d s stamp : ℕ} (M : MayWrite l c k value n d s stamp) where
   pub copy-made : {m : List ℕ} → m ≡ copyKind ∷ k ∷ value ∷ 0 ∷ 0 ∷ d ∷ cut n (withEntry d stamp (crewVector l c)) → m ≡ copyKind ∷ madeRecord l c k value
   unfolding madeRecord madeVector withEntry
   copy-made p = p ∙ (λ z. copyKind ∷ k ∷ value ∷ 0 ∷ 0 ∷ M .depot z ∷ cut (M .depots z) (withEntry (M .depot z) (M .stamped z) (crewVector l c)))
@@ -99,7 +99,7 @@ module _ (l : List ℕ) (c k value : ℕ) {n d s stamp : ℕ} (M : MayWrite l c 
 
   -- what is known on the way
   pub may-done : WriteDone l c k
-  may-done = write-done l c k (M .passed)
+  may-done = write-done l c k value (M .passed)
 
   pub may-based : Based l
   may-based = based l c k value may-done

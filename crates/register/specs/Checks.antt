@@ -11,7 +11,8 @@ use Rattle.register.specs.declared.check.AskCheck.{AskCheck}
 use Rattle.register.specs.declared.check.LinkCheck.{LinkCheck}
 use Rattle.book.specs.Layout.{countsOf, home, clock}
 use Rattle.fit.specs.Named.{baseFit}
-use Rattle.register.specs.Table.{first, shelfOf, writeNumber}
+use Rattle.paper.specs.Calls.{first}
+use Rattle.register.specs.Table.{shelfOf, writeNumber}
 use Rattle.register.specs.Answers.{refusalOf}
 
 -- the length, the counts and the homes, then a depot and a shelf: all of a tick's and a refresh's table that no further part has a say in
@@ -50,9 +51,9 @@ linkNumber l d s from = first
 unfoldable pub linkOfNumber : ℕ → ℕ → ℕ → ℕ → LinkCheck
 linkOfNumber number d s from = pick (eqb number 0) (LinkCheck.Good (record { 0 = d }) (record { 0 = s }) (record { 0 = from })) (LinkCheck.Bad (refusalOf number))
 
--- crew c may write bearing k, at its home: n depots, home depot d, shelf s, and the stamp that it gets
-pub record MayWrite (l : List ℕ) (c k n d s stamp : ℕ) : Type 0 where
-  pub passed : writeNumber l c k ≡ 0
+-- crew c may write this value to bearing k, at its home: n depots, home depot d, shelf s, and the stamp that it gets
+pub record MayWrite (l : List ℕ) (c k value n d s stamp : ℕ) : Type 0 where
+  pub passed : writeNumber l c k value ≡ 0
   pub depots : n ≡ countsOf l .depots
   pub depot : d ≡ home l c
   pub shelf : s ≡ shelfOf l k

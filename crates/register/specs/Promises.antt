@@ -28,8 +28,8 @@ pub record Read (l : List ℕ) (c k : ℕ) (r : ReadAnswer) (l′ : List ℕ) : 
   pub book : l′ ≡ after (readNumber l c k) (readBook l c k) l
 
 pub record Write (l : List ℕ) (c k value : ℕ) (r : WriteAnswer) (l′ : List ℕ) : Type 0 where
-  pub answer : r ≡ pick (eqb (writeNumber l c k) 0) (writes (newStamp l c k) (isCurrent l c k value)) (writeRefused (writeNumber l c k))
-  pub book : l′ ≡ after (writeNumber l c k) (writeBook l c k value) l
+  pub answer : r ≡ pick (eqb (writeNumber l c k value) 0) (writes (newStamp l c k) (isCurrent l c k value)) (writeRefused (writeNumber l c k value))
+  pub book : l′ ≡ after (writeNumber l c k value) (writeBook l c k value) l
 
 pub record Tick (l : List ℕ) (d s : ℕ) (r : Answer) (l′ : List ℕ) : Type 0 where
   pub answer : r ≡ answerOf (tickNumber l d s)

@@ -7,16 +7,12 @@ use mathlib.Core.List.{List, [], _∷_}
 use lib.Dec.{eqb, ltb, leb}
 use lib.ListN.{length, getD}
 use Rattle.order.specs.Loops.{every, pick}
+use Rattle.paper.specs.Calls.{first}
 use Rattle.book.specs.declared.parts.Counts.{Counts}
 use Rattle.book.specs.Layout.{end, bookWords, countsOf, home, crewVector, clock, linkOf, held, taken}
 use Rattle.fit.specs.Fit.{countsFit}
 use Rattle.fit.specs.Named.{tickFit, takeFit, refreshFit, readFit, writeFit}
 use Rattle.shelf.specs.Send.{roomy}
-
--- the number of the first test that holds, 0 where none does
-unfoldable pub first : List (Bool × ℕ) → ℕ
-first [] = 0
-first (t ∷ rest) = pick (t .0) (t .1) (first rest)
 
 -- bearing k lies on shelf k mod P
 abbrev pub shelfOf : List ℕ → ℕ → ℕ
@@ -38,9 +34,9 @@ readNumber l c k = first
     ∷ (leb (countsOf l .bearings) k, 4)
     ∷ [])
 
--- write, by crew c of bearing k
-unfoldable pub writeNumber : List ℕ → ℕ → ℕ → ℕ
-writeNumber l c k = first
+-- write, by crew c of bearing k; no check looks at the value yet
+unfoldable pub writeNumber : List ℕ → ℕ → ℕ → ℕ → ℕ
+writeNumber l c k value = first
     ((not (writeFit l c k), 1)
     ∷ (leb (countsOf l .crews) c, 5)
     ∷ (leb (countsOf l .bearings) k, 4)

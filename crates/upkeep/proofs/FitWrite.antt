@@ -99,5 +99,5 @@ module _ (l : List ℕ) (c k value : ℕ) (F : fit l ≡ true) (t : WriteDone l 
       (sent-whole (countsOf l) _ storing (home l c) (shelfOf l k) (newStamp l c k) (copyKind ∷ madeRecord l c k value) hc hs (omega arith) (ap suc (length-made l c k value))
       (made-message l c k value (t .bearing) version) (free l c k value t))
 
-pub write-fit : (l : List ℕ) (c k value : ℕ) → fit l ≡ true → writeNumber l c k ≡ 0 → fit (writeBook l c k value) ≡ true
-write-fit l c k value F h = written-book l c k value F (write-done l c k h)
+pub write-fit : (l : List ℕ) (c k value : ℕ) → fit l ≡ true → writeNumber l c k value ≡ 0 → fit (writeBook l c k value) ≡ true
+write-fit l c k value F h = written-book l c k value F (write-done l c k value h)

@@ -6,7 +6,7 @@ pub mod FitStored
 pub mod FitKept
 pub mod FitWrite
 pub mod FitSetup
-pub mod History
+pub mod PaperLaws
 pub mod NeverBadBook
 pub mod NeverBadAnswer
 pub mod Unique

@@ -27,7 +27,8 @@ use Rattle.shelf.specs.Asks.{Free}
 use Rattle.shelf.specs.Send.{roomy, sentTo, sent, beat}
 use Rattle.shelf.proofs.FrameLaws.{pick-cases}
 use Rattle.shelf.proofs.SendFrame.{OffOut, sentUpTo, length-sent-up-to, held-up-to, sent-off}
-use Rattle.register.specs.Table.{first, tickNumber}
+use Rattle.paper.specs.Calls.{first}
+use Rattle.register.specs.Table.{tickNumber}
 use Rattle.register.specs.Calls.{tickBook}
 use Rattle.register.specs.Promises.{after}
 use Rattle.register.proofs.Numbers.{TickDone, tick-done}

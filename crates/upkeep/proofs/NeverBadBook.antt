@@ -15,33 +15,34 @@ use Rattle.fit.specs.Fit.{fit}
 use Rattle.fit.proofs.FitLaws.{fit-open}
 use Rattle.fit.proofs.NamedLaws.{fit-tick, fit-take, fit-refresh, fit-read, fit-write}
 use Rattle.shelf.proofs.FrameLaws.{pick-cases}
-use Rattle.register.specs.Table.{first, setupNumber, readNumber, writeNumber, tickNumber, takeNumber, refreshNumber}
+use Rattle.paper.specs.Calls.{first, read, write, tick, take, refresh}
+use Rattle.register.specs.Table.{setupNumber, readNumber, writeNumber, tickNumber, takeNumber, refreshNumber}
 use Rattle.register.specs.Calls.{setUp}
 use Rattle.register.specs.Promises.{after}
-use Rattle.upkeep.proofs.History.{Call, setup, read, write, tick, take, refresh, numberAt, changedAt, bookAfter, bookAfterAll}
+use Rattle.upkeep.specs.Requests.{Request, setup, call, numberAt, changedBy, bookAfter, last}
 use Rattle.upkeep.proofs.FitKept.{tick-fit, take-fit, refresh-fit, read-fit}
 use Rattle.upkeep.proofs.FitWrite.{write-fit}
 use Rattle.upkeep.proofs.FitSetup.{setup-fit}
 
 -- ---- fitness is kept
 
-pub done-fit : (call : Call) (l : List ℕ) → fit l ≡ true → numberAt call l ≡ 0 → fit (changedAt call l) ≡ true
-unfolding numberAt changedAt
-done-fit (setup n homes) l F h = setup-fit l n homes h
-done-fit (read c k) l F h = read-fit l c k F h
-done-fit (write c k value) l F h = write-fit l c k value F h
-done-fit (tick d s) l F h = tick-fit l d s F h
-done-fit (take d s from) l F h = take-fit l d s from F h
-done-fit (refresh d s) l F h = refresh-fit l d s F h
+pub done-fit : (l : List ℕ) → fit l ≡ true → (r : Request) → numberAt l r ≡ 0 → fit (changedBy l r) ≡ true
+unfolding numberAt changedBy
+done-fit l F (setup n homes) h = setup-fit l n homes h
+done-fit l F (call (read c k)) h = read-fit l c k F h
+done-fit l F (call (write c k value)) h = write-fit l c k value F h
+done-fit l F (call (tick d s)) h = tick-fit l d s F h
+done-fit l F (call (take d s from)) h = take-fit l d s from F h
+done-fit l F (call (refresh d s)) h = refresh-fit l d s F h
 
-pub call-fit : (call : Call) (l : List ℕ) → fit l ≡ true → fit (bookAfter call l) ≡ true
+pub request-fit : (l : List ℕ) → fit l ≡ true → (r : Request) → fit (bookAfter l r) ≡ true
 unfolding bookAfter after
-call-fit call l h = pick-cases (λ (m : List ℕ). fit m ≡ true) (eqb (numberAt call l) 0) _ l (λ e. done-fit call l h (eqb-true (numberAt call l) 0 e)) λ e. h
+request-fit l F r = pick-cases (λ (m : List ℕ). fit m ≡ true) (eqb (numberAt l r) 0) _ l (λ e. done-fit l F r (eqb-true (numberAt l r) 0 e)) λ e. F
 
-pub calls-fit : (calls : List Call) (l : List ℕ) → fit l ≡ true → fit (bookAfterAll calls l) ≡ true
-unfolding bookAfterAll
-calls-fit [] l h = h
-calls-fit (call ∷ calls) l h = calls-fit calls (bookAfter call l) (call-fit call l h)
+pub last-fit : (l : List ℕ) → fit l ≡ true → (rs : List Request) → fit (last l rs) ≡ true
+unfolding last
+last-fit l F [] = F
+last-fit l F (r ∷ rs) = last-fit (bookAfter l r) (request-fit l F r) rs
 
 -- ---- so no number is 1
 
@@ -60,29 +61,28 @@ none-other : first [] ≡ 1 → ⊥
 unfolding first
 none-other h = omega arith
 
-pub fit-number : (call : Call) (l : List ℕ) → fit l ≡ true → numberAt call l ≡ 1 → ⊥
+pub fit-number : (l : List ℕ) → fit l ≡ true → (r : Request) → numberAt l r ≡ 1 → ⊥
 unfolding numberAt setupNumber readNumber writeNumber tickNumber takeNumber refreshNumber
-fit-number (setup n homes) l h =
+fit-number l h (setup n homes) =
     first-other _ _ (ap not (eq-eqb (length l) bookWords (fit-open l h .full))) (later-other _ 11 _ (omega arith) (later-other _ 2 _ (omega arith) none-other))
-fit-number (read c k) l h = first-other _ _ (ap not (fit-read l h c k)) (later-other _ 5 _ (omega arith) (later-other _ 4 _ (omega arith) none-other))
-fit-number (write c k value) l h =
+fit-number l h (call (read c k)) = first-other _ _ (ap not (fit-read l h c k)) (later-other _ 5 _ (omega arith) (later-other _ 4 _ (omega arith) none-other))
+fit-number l h (call (write c k value)) =
     first-other _ _ (ap not (fit-write l h c k))
     (later-other _ 5 _ (omega arith)
     (later-other _ 4 _ (omega arith) (later-other _ 8 _ (omega arith) (later-other _ 10 _ (omega arith) (later-other _ 9 _ (omega arith) none-other)))))
-fit-number (tick d s) l h =
+fit-number l h (call (tick d s)) =
     first-other _ _ (ap not (fit-tick l h d s))
     (later-other _ 2 _ (omega arith) (later-other _ 3 _ (omega arith) (later-other _ 10 _ (omega arith) (later-other _ 9 _ (omega arith) none-other))))
-fit-number (take d s from) l h =
+fit-number l h (call (take d s from)) =
     first-other _ _ (ap not (fit-take l h d s from))
     (later-other _ 2 _ (omega arith) (later-other _ 3 _ (omega arith) (later-other _ 6 _ (omega arith) (later-other _ 7 _ (omega arith) none-other))))
-fit-number (refresh d s) l h = first-other _ _ (ap not (fit-refresh l h d s)) (later-other _ 2 _ (omega arith) (later-other _ 3 _ (omega arith) none-other))
+fit-number l h (call (refresh d s)) = first-other _ _ (ap not (fit-refresh l h d s)) (later-other _ 2 _ (omega arith) (later-other _ 3 _ (omega arith) none-other))
 
--- after a setup that was done and any calls, done or refused, later setups among them, no call is answered with BAD BOOK
+-- after a setup that was done and any requests, done or refused, later setups among them, none is answered with BAD BOOK
 pub never-bad-book :
-    (l : List ℕ) (n : Counts) (homes : List ℕ) → setupNumber l n homes ≡ 0 → (calls : List Call) (call : Call) →
-    numberAt call (bookAfterAll calls (setUp n homes)) ≡ 1 → ⊥
-never-bad-book l n homes h calls call = fit-number call _ (calls-fit calls (setUp n homes) (setup-fit l n homes h))
+    (l : List ℕ) (n : Counts) (homes : List ℕ) → setupNumber l n homes ≡ 0 → (rs : List Request) (r : Request) → numberAt (last (setUp n homes) rs) r ≡ 1 → ⊥
+never-bad-book l n homes h rs r = fit-number _ (last-fit (setUp n homes) (setup-fit l n homes h) rs) r
 
 -- the same of any fit book
-pub never-bad-fit : (l : List ℕ) → fit l ≡ true → (calls : List Call) (call : Call) → numberAt call (bookAfterAll calls l) ≡ 1 → ⊥
-never-bad-fit l h calls call = fit-number call _ (calls-fit calls l h)
+pub never-bad-fit : (l : List ℕ) → fit l ≡ true → (rs : List Request) (r : Request) → numberAt (last l rs) r ≡ 1 → ⊥
+never-bad-fit l F rs r = fit-number _ (last-fit l F rs) r

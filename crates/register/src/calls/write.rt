@@ -155,7 +155,7 @@ fn write_version(
     stamp: u32,
     value: u32,
 ) -> WriteAnswer
-    requires { ⌜ MayWrite (now book) (c .0) (k .0) n (d .0) (s .0) stamp ⌝ }
+    requires { ⌜ MayWrite (now book) (c .0) (k .0) value n (d .0) (s .0) stamp ⌝ }
     ensures { λ r. ⌜ (r ≡ writes (newStamp (now (book .entry)) (c .0) (k .0)) (isCurrent (now (book .entry)) (c .0) (k .0) value))
         × (now (book .exit) ≡ writeBook (now (book .entry)) (c .0) (k .0) value) ⌝ }
 {

@@ -1,18 +1,20 @@
 -- `events::reply::run_tick` meets its contract: the promise of the call settles what is printed.
 -- Assumes nothing.
+use mathlib.Core.Path.{ap}
+use Rattle.register.specs.declared.answer.Answer.{Answer}
+use Rattle.upkeep.specs.Requests.{replyTo, numberAt, changedBy, bookAfter}
+use Rattle.upkeep.specs.Paper.{paper, onPaper}
 use Rattle.line.proofs.PrintLaws.{wrote-same}
-use Rattle.events.specs.Answering.{eventBook, eventSays}
-use Rattle.events.proofs.NumberLaws.{tick-under}
-use Rattle.events.proofs.SayLaws.{number-says}
+use Rattle.events.specs.Answering.{requestOf, printed, eventBook, eventSays}
 use borrow.Author.Needs.{needs}
 use Rattle.events.proofs.reply.run_tick.Statement.{statement}
 use Rattle.events.proofs.reply.run_tick.Tie as tie
 
 returns : tie.Need-returns
-unfolding eventBook eventSays
+unfolding eventBook eventSays requestOf replyTo numberAt changedBy bookAfter onPaper
 returns c =
     let promise = c .before .before .before .before .before .before .tick .ensures in
-    (promise .book, wrote-same (number-says _ (tick-under _ _ _) (promise .answer)) (c .before .before .say-answer .ensures))
+    (promise .book, wrote-same (ap (λ (x : Answer). printed (paper x)) (promise .answer)) (c .before .before .say-answer .ensures))
 
 pub run-tick-spec : {M : Type 1} → statement M
 run-tick-spec =

@@ -1,18 +1,20 @@
 -- `events::reply::run_write` meets its contract: the promise of the call settles what is printed.
 -- Assumes nothing.
+use mathlib.Core.Path.{ap}
+use Rattle.register.specs.declared.answer.WriteAnswer.{WriteAnswer}
+use Rattle.upkeep.specs.Requests.{replyTo, numberAt, changedBy, bookAfter}
+use Rattle.upkeep.specs.Paper.{paperWrite, onPaper}
 use Rattle.line.proofs.PrintLaws.{wrote-same}
-use Rattle.events.specs.Answering.{eventBook, eventSays}
-use Rattle.events.proofs.NumberLaws.{write-under}
-use Rattle.events.proofs.SayLaws.{written-by-number}
+use Rattle.events.specs.Answering.{requestOf, printed, eventBook, eventSays}
 use borrow.Author.Needs.{needs}
 use Rattle.events.proofs.reply.run_write.Statement.{statement}
 use Rattle.events.proofs.reply.run_write.Tie as tie
 
 returns : tie.Need-returns
-unfolding eventBook eventSays
+unfolding eventBook eventSays requestOf replyTo numberAt changedBy bookAfter onPaper
 returns c =
     let promise = c .before .before .before .before .before .before .write .ensures in
-    (promise .book, wrote-same (written-by-number _ _ _ _ (write-under _ _ _) (promise .answer)) (c .before .before .say-written .ensures))
+    (promise .book, wrote-same (ap (λ (x : WriteAnswer). printed (paperWrite x)) (promise .answer)) (c .before .before .say-written .ensures))
 
 pub run-write-spec : {M : Type 1} → statement M
 run-write-spec =

@@ -1,9 +1,9 @@
 -- `events::reply::say_answer` meets its contract: the number of the answer is printed.
 -- Assumes nothing.
-use mathlib.Core.Path.{ap}
+use mathlib.Core.Path.{_∙_, ap}
 use Rattle.line.specs.Answers.{numberAnswer}
 use Rattle.line.proofs.PrintLaws.{wrote-same}
-use Rattle.events.proofs.SayLaws.{number-room}
+use Rattle.events.proofs.SayLaws.{number-room, plain-says}
 use borrow.Author.Needs.{needs}
 use Rattle.events.proofs.reply.say_answer.Statement.{statement}
 use Rattle.events.proofs.reply.say_answer.Tie as tie
@@ -12,7 +12,7 @@ answer-number-requires : tie.Need-answer-number-requires
 answer-number-requires c κs = number-room _ (c .before .before .before .pre)
 
 returns : tie.Need-returns
-returns c = wrote-same (ap numberAnswer (c .before .before .before .before .number-of-answer .ensures)) (c .before .before .answer-number .ensures)
+returns c = wrote-same (ap numberAnswer (c .before .before .before .before .number-of-answer .ensures) ∙ plain-says _) (c .before .before .answer-number .ensures)
 
 pub say-answer-spec : {M : Type 1} → statement M
 say-answer-spec =

@@ -4,7 +4,9 @@ use mathlib.Core.Path.{sym, _∙_, ap}
 use mathlib.Core.Bool.{true, false}
 use Rattle.line.specs.Answers.{numberAnswer}
 use Rattle.line.proofs.PrintLaws.{wrote-same}
-use Rattle.events.specs.Numbers.{writtenSays}
+use Rattle.register.specs.declared.answer.WriteAnswer.{WriteAnswer}
+use Rattle.upkeep.specs.Paper.{paperWrite}
+use Rattle.events.specs.Answering.{printed}
 use Rattle.events.proofs.SayLaws.{number-room, stamp-room}
 use borrow.Author.Needs.{needs}
 use Rattle.events.proofs.reply.say_written.Statement.{statement}
@@ -20,14 +22,19 @@ answer-number-requires : tie.Need-answer-number-requires
 answer-number-requires c κs = number-room _ (c .before .before .before .before .before .before .pre)
 
 returns : tie.Need-returns
-returns c = wrote-same (sym (ap writtenSays (c .before .before .before .before .before .answer .given .1))) (c .before .before .answer-stamp .ensures)
+unfolding printed paperWrite
+returns c = wrote-same (sym (ap (λ (x : WriteAnswer). printed (paperWrite x)) (c .before .before .before .before .before .answer .given .1))) (c .before .before .answer-stamp .ensures)
 
 returns-2 : tie.Need-returns-2
-returns-2 c = wrote-same (sym (ap writtenSays (c .before .before .before .before .before .answer2 .given .1))) (c .before .before .answer-stamp2 .ensures)
+unfolding printed paperWrite
+returns-2 c = wrote-same (sym (ap (λ (x : WriteAnswer). printed (paperWrite x)) (c .before .before .before .before .before .answer2 .given .1))) (c .before .before .answer-stamp2 .ensures)
 
 returns-3 : tie.Need-returns-3
+unfolding printed paperWrite
 returns-3 c =
-    wrote-same (ap numberAnswer (c .before .before .before .before .number-of .ensures) ∙ sym (ap writtenSays (c .before .before .before .before .before .before .answer3 .given .1)))
+    wrote-same
+    (ap numberAnswer (c .before .before .before .before .number-of .ensures)
+    ∙ sym (ap (λ (x : WriteAnswer). printed (paperWrite x)) (c .before .before .before .before .before .before .answer3 .given .1)))
     (c .before .before .answer-number .ensures)
 
 pub say-written-spec : {M : Type 1} → statement M

@@ -30,7 +30,7 @@ returns : tie.Need-returns
 returns c =
     let at = c .before .before .before in
     let bad = bad-asked _ _ _ _ (at .check-asked .ensures) (c .before .r .given .1) in
-    let same = write-bad _ _ _ (bad .0) in
+    let same = write-bad _ _ _ _ (bad .0) in
     record { answer = refused-write _ _ _ same (bad .0) (bad .1); book = refused-book _ _ _ _ same (bad .0) }
 
 returns-2 : tie.Need-returns-2

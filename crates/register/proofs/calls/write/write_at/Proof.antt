@@ -122,7 +122,7 @@ may :
     let shelf = c .before .before .before .before .before .before .before .before .before .before .before .before .before in
     let counts = shelf .before .before .before in
     let args = counts .before .before .before .args in
-    MayWrite (now (args .book)) (args .c .0) (args .k .0) (counts .counts-of .result .depots) (shelf .before .home-depot .result .0) (shelf .shelf-for .result .0)
+    MayWrite (now (args .book)) (args .c .0) (args .k .0) (args .value) (counts .counts-of .result .depots) (shelf .before .home-depot .result .0) (shelf .shelf-for .result .0)
     (c .before .before .before .before .before .before .before .before .clock-of .result + 1)
 may c =
     let at3 = c .before .before .before in
@@ -131,7 +131,7 @@ may c =
     let start = counts .before .before .before in
     let args = start .args in
     record {
-      passed = write-good _ _ _ (fits (c .before .before .before .before .before .before .before .before .before .before)) (start .pre .1) (start .pre .2) (told-no-wait (at3 .before)) (told-early at3) (test-passed (roomy-said (c .before)) (c .if4 .left));
+      passed = write-good _ _ _ _ (fits (c .before .before .before .before .before .before .before .before .before .before)) (start .pre .1) (start .pre .2) (told-no-wait (at3 .before)) (told-early at3) (test-passed (roomy-said (c .before)) (c .if4 .left));
       depots = ap (λ (n : Counts). n .depots) (counts .counts-of .ensures);
       depot = shelf .before .home-depot .ensures;
       shelf = shelf .shelf-for .ensures ∙ ap (λ (n : Counts). args .k .0 % n .shelves) (counts .counts-of .ensures);
@@ -164,7 +164,7 @@ returns : tie.Need-returns
 unfolding refusalOf numbered numberOf pick
 returns c =
     let start = c .before .before .before .before .before .before .before .before .before in
-    let e = write-book _ _ _ (start .pre .0) (start .pre .1) (start .pre .2) (test-failed (parts-said (c .before)) (c .if1 .taken)) in
+    let e = write-book _ _ _ _ (start .pre .0) (start .pre .1) (start .pre .2) (test-failed (parts-said (c .before)) (c .if1 .taken)) in
     record { answer = refused-write _ 1 _ e (not-done 1 refl (lit≤ tt)) refl; book = refused-book _ 1 _ _ e (not-done 1 refl (lit≤ tt)) }
 
 clock-of-requires : tie.Need-clock-of-requires
@@ -190,7 +190,7 @@ unfolding refusalOf numbered numberOf pick
 returns-2 c =
     let at = c .before .before in
     let start = at .before .before .before .before .before .before .before .before .before .before .before .before .before in
-    let e = write-wait _ _ _ (fits (at .before .before .before .before)) (start .pre .1) (start .pre .2) (subst₂ (λ (x y : ℕ). x < y) (clock-said (at .before .before)) (entry-said at) (c .if2 .taken)) in
+    let e = write-wait _ _ _ _ (fits (at .before .before .before .before)) (start .pre .1) (start .pre .2) (subst₂ (λ (x y : ℕ). x < y) (clock-said (at .before .before)) (entry-said at) (c .if2 .taken)) in
     record { answer = refused-write _ 8 _ e (not-done 8 refl (lit≤ tt)) refl; book = refused-book _ 8 _ _ e (not-done 8 refl (lit≤ tt)) }
 
 returns-3 : tie.Need-returns-3
@@ -199,7 +199,7 @@ returns-3 c =
     let at2 = c .before in
     let at = at2 .before .before in
     let start = at .before .before .before .before .before .before .before .before .before .before .before .before .before in
-    let e = write-end _ _ _ (fits (at .before .before .before .before)) (start .pre .1) (start .pre .2) (told-no-wait at2) (subst (λ (x : ℕ). end ≤ x) (clock-said (at .before .before)) (c .if3 .taken)) in
+    let e = write-end _ _ _ _ (fits (at .before .before .before .before)) (start .pre .1) (start .pre .2) (told-no-wait at2) (subst (λ (x : ℕ). end ≤ x) (clock-said (at .before .before)) (c .if3 .taken)) in
     record { answer = refused-write _ 10 _ e (not-done 10 refl (lit≤ tt)) refl; book = refused-book _ 10 _ _ e (not-done 10 refl (lit≤ tt)) }
 
 is-roomy-requires : tie.Need-is-roomy-requires
@@ -213,7 +213,7 @@ unfolding refusalOf numbered numberOf pick
 returns-4 c =
     let at3 = c .before .before .before in
     let start = at3 .before .before .before .before .before .before .before .before .before .before .before .before .before .before .before .before in
-    let e = write-full _ _ _ (fits (at3 .before .before .before .before .before .before .before)) (start .pre .1) (start .pre .2) (told-no-wait (at3 .before)) (told-early at3) (test-failed (roomy-said (c .before)) (c .if4 .taken)) in
+    let e = write-full _ _ _ _ (fits (at3 .before .before .before .before .before .before .before)) (start .pre .1) (start .pre .2) (told-no-wait (at3 .before)) (told-early at3) (test-failed (roomy-said (c .before)) (c .if4 .taken)) in
     record { answer = refused-write _ 9 _ e (not-done 9 refl (lit≤ tt)) refl; book = refused-book _ 9 _ _ e (not-done 9 refl (lit≤ tt)) }
 
 add-write-version : tie.Need-add-write-version

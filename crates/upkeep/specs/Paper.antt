@@ -1,4 +1,4 @@
--- The answers of the calls as the model has them: the paper's number of each refusal, and of a read the D entries of its vector.
+-- Each answer as document 01 has it: the number of a refusal, and of what is done its values, of a read the D entries of its vector.
 -- Assumes nothing.
 use Prim.Native.Nat.{ℕ}
 use mathlib.Core.List.{List}
@@ -8,8 +8,8 @@ use Rattle.register.specs.declared.answer.Answer as register
 use Rattle.register.specs.declared.answer.Finding as finding
 use Rattle.register.specs.declared.answer.ReadAnswer.{ReadAnswer}
 use Rattle.register.specs.declared.answer.WriteAnswer as written
-use Rattle.bridge.specs.Histories.{Reply, plain, found, wrote}
-use Rattle.model.specs.Calls.{Answer, refused, done, read-value, read-unwritten, current, superseded}
+use Rattle.upkeep.specs.Requests.{Reply, plain, found, wrote}
+use Rattle.paper.specs.Calls.{Answer, refused, done, reads, read-value, read-unwritten, current, superseded}
 
 -- the answer of a setup, a tick, a take or a refresh
 unfoldable pub paper : register.Answer → Answer
@@ -18,8 +18,8 @@ paper (register.Answer.Refused r) = refused (numberOf r)
 
 -- the answer of a read, with n depots
 unfoldable pub paperFound : finding.Finding → List ℕ → Answer
-paperFound (finding.Finding.Value v) u = read-value v u
-paperFound finding.Finding.Unwritten u = read-unwritten u
+paperFound (finding.Finding.Value v) u = reads (read-value v u)
+paperFound finding.Finding.Unwritten u = reads (read-unwritten u)
 paperFound (finding.Finding.Refused r) u = refused (numberOf r)
 
 unfoldable pub paperRead : ℕ → ReadAnswer → Answer
