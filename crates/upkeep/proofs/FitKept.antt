@@ -6,10 +6,10 @@ use native.Mathlib.Omega.{arith}
 use mathlib.Core.Path.{_≡_, refl, sym}
 use mathlib.Core.List.{List}
 use mathlib.Core.Bool.{true}
-use Rattle.order.proofs.LoopLaws.{times-keeps}
+use Rattle.loops.proofs.LoopLaws.{times-keeps}
 use Rattle.book.specs.Layout.{end, countsOf, home, crewVector, clock, stored}
 use Rattle.fit.specs.Fit.{fit}
-use Rattle.shelf.specs.Send.{beat, lowest, lowestSeen}
+use Rattle.links.specs.Send.{beat, lowest, lowestSeen}
 use Rattle.shelf.proofs.FrameLaws.{pick-cases}
 use Rattle.register.specs.Table.{shelfOf, readNumber, tickNumber, takeNumber, refreshNumber}
 use Rattle.register.specs.Calls.{settledHome, readRecord, readBook, tickBook, takeBook, refreshBook}

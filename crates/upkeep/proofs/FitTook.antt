@@ -9,15 +9,15 @@ use mathlib.Core.Bool.{true, false}
 use lib.Dec.{eqb}
 use lib.ListN.{getD}
 use borrow.Author.Tests.{eqb-false}
-use Rattle.order.proofs.BoolLaws.{decided, pick-true, pick-false, eq-or-ne}
+use Rattle.loops.proofs.BoolLaws.{decided, pick-true, pick-false, eq-or-ne}
 use Rattle.book.specs.declared.parts.Counts.{Counts}
 use Rattle.book.specs.Layout.{end, beatKind, clockAt, stableAt, seenAt, slotAt, heldAt, linkOf, held, taken, slot, kindOf}
-use Rattle.shelf.specs.Send.{took}
+use Rattle.links.specs.Send.{took}
 use Rattle.shelf.proofs.FrameLaws.{Off}
 use Rattle.shelf.proofs.AllLaws.{AllOf, all-append, all-one, all-first, all-rest}
 use Rattle.shelf.proofs.ShowLaws.{untakenSlots}
-use Rattle.shelf.proofs.SendFrame.{length-took, took-off}
-use Rattle.shelf.proofs.TookLaws.{took-head, took-first, took-copies, took-waiting, took-seen, took-stored}
+use Rattle.links.proofs.SendFrame.{length-took, took-off}
+use Rattle.links.proofs.TookLaws.{took-head, took-first, took-copies, took-waiting, took-seen, took-stored}
 use Rattle.register.proofs.FitParts.{ShelfOk, LinkOk, IsCopy, IsMessage, Whole}
 use Rattle.upkeep.proofs.FitFrame.{counts-same, link-ok-off, stored-ok-same}
 use Rattle.register.proofs.FitMessage.{CopyOk, copy-close, message-cases, stamp-range}
@@ -71,7 +71,7 @@ module _ (n : Counts) (l : List ℕ) (W : Whole n l) (d s from : ℕ) (hd : d < 
             (eq-or-ne (seenAt e r + x) (seenAt d s + from));
       }
     where
-      seen-now : getD after (seenAt d s + from) 0 ≡ Rattle.shelf.specs.Send.stampFrom from message
+      seen-now : getD after (seenAt d s + from) 0 ≡ Rattle.links.specs.Send.stampFrom from message
       seen-now = unfold after message in took-seen d s from l d4 s4 f4 (W .full) (old .room) more
 
   -- the link that it was taken from, by the kind of the message

@@ -8,7 +8,7 @@ use mathlib.Core.Bool.{true}
 use lib.Dec.{eqb}
 use borrow.Author.Tests.{eq-eqb}
 use Rattle.order.specs.Record.{bearingOf, originOf, vectorOf}
-use Rattle.order.proofs.BoolLaws.{pick-true}
+use Rattle.loops.proofs.BoolLaws.{pick-true}
 use Rattle.book.specs.Layout.{end, copyKind, countsOf, home, crewVector, clock}
 use Rattle.fit.specs.Fit.{fit}
 use Rattle.shelf.specs.Show.{keptIn}

@@ -8,12 +8,12 @@ use mathlib.Core.Bool.{Bool, true, false, not}
 use lib.Dec.{eqb}
 use lib.ListN.{length}
 use borrow.Author.Tests.{eqb-true, eq-eqb}
-use Rattle.order.specs.Loops.{pick}
+use Rattle.loops.specs.Loops.{pick}
 use Rattle.book.specs.declared.parts.Counts.{Counts}
 use Rattle.book.specs.Layout.{bookWords}
 use Rattle.fit.specs.Fit.{fit}
 use Rattle.fit.proofs.FitLaws.{fit-open}
-use Rattle.fit.proofs.NamedLaws.{fit-tick, fit-take, fit-refresh, fit-read, fit-write}
+use Rattle.named.proofs.NamedLaws.{fit-tick, fit-take, fit-refresh, fit-read, fit-write}
 use Rattle.shelf.proofs.FrameLaws.{pick-cases}
 use Rattle.paper.specs.Calls.{first, read, write, tick, take, refresh}
 use Rattle.register.specs.Table.{setupNumber, readNumber, writeNumber, tickNumber, takeNumber, refreshNumber}
