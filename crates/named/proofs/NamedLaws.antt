@@ -2,24 +2,26 @@
 -- Assumes nothing.
 use Prim.Native.Nat.{ℕ, _%_, _<_}
 use native.Mathlib.Nat.{mod-lt}
-use mathlib.Core.Path.{_≡_, sym, _∙_}
+use mathlib.Core.Path.{_≡_, sym, _∙_, ap, ap₂}
 use mathlib.Core.Logic.{⊎-elim}
 use mathlib.Core.List.{List}
 use mathlib.Core.Bool.{Bool, true, false, _&&_, _||_}
-use lib.Dec.{eqb}
+use lib.Dec.{leb, eqb}
 use lib.ListN.{length}
 use borrow.Author.Tests.{lt-leb, leb-false, eqb-true, eqb-false, eq-eqb, ne-eqb, ltb-true, le-leb}
+use Rattle.loops.specs.Loops.{every}
+use Rattle.order.specs.Record.{bearingOf}
 use Rattle.loops.proofs.BoolLaws.{decided, and-left, and-right, and-intro, and-next, or-left, or-right, or-next}
 use Rattle.loops.proofs.LoopLaws.{every-at, every-intro}
 use Rattle.order.proofs.VectorLaws.{covered-at}
 use Rattle.book.specs.declared.parts.Counts.{Counts}
-use Rattle.book.specs.Layout.{bookWords, countsOf, home, seen, linkOf}
-use Rattle.fit.specs.Fit.{countsFit, Within, homeFit, crewFit, clockFit, stableFit, seenFit, shelfFit, othersInRange, headFit, linkFit, storedFit}
+use Rattle.book.specs.Layout.{bookWords, end, linkRoom, countsOf, home, seen, linkOf, held, taken, slot, recordOf}
+use Rattle.fit.specs.Fit.{countsFit, Within, homeFit, crewFit, clockFit, stableFit, seenFit, shelfFit, othersInRange, headFit, messagesFit, linkFit, storedFit}
 use Rattle.fit.specs.Fit.{homesFit, crewsFit, shelvesFit, linksFit, storesFit, partsFit, fit}
 use Rattle.named.specs.Named.{headsOutFit, placesFit, arrivalFit, showFit, tickParts, takeParts, refreshParts, homeParts, readParts, writeParts}
 use Rattle.named.specs.Named.{baseFit, tickFit, takeFit, refreshFit, readFit, writeFit}
 use Rattle.fit.proofs.FitLaws.{counts-within, IsFit, fit-open}
-use Rattle.versions.proofs.MessageLaws.{link-bearings}
+use Rattle.versions.proofs.MessageLaws.{and-flat, link-heads, link-bearings}
 
 -- a test that is asked only of a number in range
 unless : (a : Bool) {b : Bool} → (a ≡ false → b ≡ true) → a || b ≡ true
@@ -209,3 +211,17 @@ read-based l c k h = and-left (baseFit l) _ h
 pub write-based : (l : List ℕ) (c k : ℕ) → writeFit l c k ≡ true → baseFit l ≡ true
 unfolding writeFit
 write-based l c k h = and-left (baseFit l) _ h
+
+-- ---- the code
+
+-- what arrives on a link, by the two numbers of its head
+pub arrival-heads :
+    (n : Counts) (l : List ℕ) (d s from : ℕ) {q h t : ℕ} → q ≡ linkOf s from d → h ≡ held l q → t ≡ taken l q →
+    arrivalFit n l d s from
+    ≡ leb h linkRoom && (leb t h && (messagesFit n l s from q t h && every t (λ i. storedFit n l d (bearingOf (recordOf (slot l q i))))))
+unfolding arrivalFit placesFit
+arrival-heads n l d s from {q} {h} {t} e p r =
+    ap (λ (x : ℕ). linkFit n l s from x && every (taken l x) (λ i. storedFit n l d (bearingOf (recordOf (slot l x i))))) (sym e)
+    ∙ ap₂ (λ (b : Bool) (x : ℕ). b && every x (λ i. storedFit n l d (bearingOf (recordOf (slot l q i))))) (link-heads n l s from q p r) (sym r)
+    ∙ and-flat (leb h linkRoom) _ _
+    ∙ ap (λ (b : Bool). leb h linkRoom && b) (and-flat (leb t h) _ _)

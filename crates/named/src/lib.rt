@@ -2,6 +2,7 @@
 use book::layout::BEARING_ROOM;
 use book::layout::BOOK_WORDS;
 use book::layout::END;
+use book::layout::LINK_ROOM;
 use book::layout::Link;
 use book::layout::SLOT_RECORD;
 use book::layout::seen_at;
@@ -11,6 +12,7 @@ use book::numbers::Depot;
 use book::numbers::Shelf;
 use book::parts::Counts;
 use book::parts::counts_of;
+use book::parts::held_of;
 use book::parts::taken_of;
 use book::parts::wide;
 use fit::counts::counts_fit;
@@ -21,6 +23,7 @@ use fit::shelf::seen_fits;
 use fit::shelf::stable_fits;
 use versions::link::head_fits;
 use versions::link::link_fits;
+use versions::link::messages_fit;
 use versions::version::stored_fits;
 ghost use mathlib.Core.Path.{_≡_};
 ghost use mathlib.Core.Bool.{_&&_, _||_};
@@ -128,10 +131,18 @@ fn arrival_fits(book: &[u32], n: Counts, d: Depot, s: Shelf, from: Depot) -> boo
     ensures { λ r. ⌜ r ≡ arrivalFit n (now (book .entry)) (d .0) (s .0) (from .0) ⌝ }
 {
     let q = Link::between(s, from, d);
-    if !link_fits(book, n, s, from, q) {
+    let count = held_of(book, q);
+    let taken = taken_of(book, q);
+    if LINK_ROOM < count {
         return false;
     }
-    places_fit(book, n, d, q, taken_of(book, q))
+    if count < taken {
+        return false;
+    }
+    if !messages_fit(book, n, s, from, q, taken, count) {
+        return false;
+    }
+    places_fit(book, n, d, q, taken)
 }
 
 // The same, unless that depot is this one.

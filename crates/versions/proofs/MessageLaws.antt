@@ -2,7 +2,7 @@
 -- Assumes nothing.
 use Prim.Native.Nat.{ℕ, _+_, _-_, _≤_, _<_}
 use native.Mathlib.Omega.{arith}
-use mathlib.Core.Path.{_≡_, refl, sym, _∙_, ap, ap₂}
+use mathlib.Core.Path.{_≡_, refl, sym, _∙_, ap, ap₂, subst}
 use mathlib.Core.List.{List}
 use mathlib.Core.Bool.{Bool, true, false, _&&_, _||_, or-false}
 use lib.Dec.{leb, ltb, eqb, lit≤}
@@ -17,7 +17,7 @@ use Rattle.book.specs.declared.parts.Counts.{Counts}
 use Rattle.book.specs.Layout.{end, copyKind, beatKind, kindOf, beatOf, recordOf, linkRoom, slotAt, held, taken, slot}
 use Rattle.fit.specs.Fit.{versionFit, carriedFit, copyFit, beatFit, messageFit, headFit, messagesFit, linkFit}
 
-and-flat : (a b c : Bool) → a && b && c ≡ a && (b && c)
+pub and-flat : (a b c : Bool) → a && b && c ≡ a && (b && c)
 and-flat true b c = refl
 and-flat false b c = refl
 
@@ -50,23 +50,34 @@ head-said l q p r = rw (p, r)
 -- a link, by the two numbers of its head
 pub link-heads :
     (n : Counts) (l : List ℕ) (s from q : ℕ) {h t : ℕ} → h ≡ held l q → t ≡ taken l q →
-    linkFit n l s from q
-    ≡ leb h linkRoom && (leb t h && (every t (λ i. copyFit n s from (slot l q i)) && every (h - t) (λ i. messageFit n s from (slot l q (t + i)))))
-unfolding linkFit headFit messagesFit
+    linkFit n l s from q ≡ leb h linkRoom && (leb t h && messagesFit n l s from q t h)
+unfolding linkFit headFit
 link-heads n l s from q {h} {t} p r = rw (p, r) (and-flat (leb (held l q) linkRoom) _ _)
+
+-- where it holds none, none has to be fit
+pub link-empty : (n : Counts) (l : List ℕ) (s from q : ℕ) {h t : ℕ} → h ≡ 0 → t ≤ h → messagesFit n l s from q t h ≡ true
+unfolding messagesFit every
+link-empty n l s from q {h} {t} e k =
+    let z : t ≡ 0 = omega arith in
+    subst (λ (x : ℕ). messagesFit n l s from q t x ≡ true) (sym e) (subst (λ (x : ℕ). messagesFit n l s from q x 0 ≡ true) (sym z) refl)
 
 -- the bearing of the copy in a slot, where it stands
 pub bearing-there : (l : List ℕ) (q i : ℕ) {at : ℕ} → at ≡ slotAt q i → getD l (at + 1) 0 ≡ bearingOf (recordOf (slot l q i))
 bearing-there l q i {at} e = ap (λ (a : ℕ). getD l (a + 1) 0) e ∙ sym (part-at (slot l q i) 1 9 0 (lit≤ tt) ∙ part-at l (slotAt q i) 10 1 (lit≤ tt))
 
 -- the bearing of a taken copy of a fit link
-pub link-bearings : (n : Counts) (l : List ℕ) (s from q : ℕ) → linkFit n l s from q ≡ true → (i : ℕ) → i < taken l q → bearingOf (recordOf (slot l q i)) < n .bearings
-unfolding linkFit messagesFit copyFit carriedFit
-link-bearings n l s from q h i k =
+pub messages-bearings :
+    (n : Counts) (l : List ℕ) (s from q t h : ℕ) → messagesFit n l s from q t h ≡ true → (i : ℕ) → i < t → bearingOf (recordOf (slot l q i)) < n .bearings
+unfolding messagesFit copyFit carriedFit
+messages-bearings n l s from q t h e i k =
     let m = slot l q i in
-    let a = every-at (taken l q) _ (and-left _ _ (and-right (headFit l q) _ h)) i k in
+    let a = every-at t _ (and-left _ _ e) i k in
     let b = and-right (versionFit n (recordOf m)) _ (and-right (eqb (kindOf m) copyKind) _ a) in
     ltb-true _ _ (and-left (ltb (bearingOf (recordOf m)) (n .bearings)) _ (and-right (eqb (originOf (recordOf m)) from) _ b))
+
+pub link-bearings : (n : Counts) (l : List ℕ) (s from q : ℕ) → linkFit n l s from q ≡ true → (i : ℕ) → i < taken l q → bearingOf (recordOf (slot l q i)) < n .bearings
+unfolding linkFit
+link-bearings n l s from q h = messages-bearings n l s from q (taken l q) (held l q) (and-right (headFit l q) _ h)
 
 -- and its head
 pub link-head : (n : Counts) (l : List ℕ) (s from q : ℕ) → linkFit n l s from q ≡ true → (held l q ≤ linkRoom) × (taken l q ≤ held l q)

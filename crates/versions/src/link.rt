@@ -19,7 +19,7 @@ ghost use lib.ListN.{length};
 ghost use Rattle.loops.specs.Loops.{every};
 ghost use Rattle.order.specs.Record.{mostDepots};
 ghost use Rattle.book.specs.Layout.{bookWords, slotWords, linkRoom, links, slot};
-ghost use Rattle.fit.specs.Fit.{copyFit, messageFit, headFit, linkFit};
+ghost use Rattle.fit.specs.Fit.{copyFit, messageFit, headFit, messagesFit, linkFit};
 
 // Whether a message is a copy that the link of a shelf out of a depot may carry.
 fn copy_fits(message: &[u32], n: Counts, s: Shelf, from: Depot) -> bool
@@ -65,7 +65,7 @@ fn copies_fit(book: &[u32], n: Counts, s: Shelf, from: Depot, q: Link, count: us
 }
 
 // Whether the `count` messages after the first `taken` ones are fit.
-fn messages_fit(
+fn waiting_fit(
     book: &[u32],
     n: Counts,
     s: Shelf,
@@ -101,21 +101,40 @@ pub fn head_fits(book: &[u32], q: Link) -> bool
     taken_of(book, q) <= messages
 }
 
+// Whether the messages of a link are fit, `count` of them, the first `taken` of which are taken.
+pub fn messages_fit(
+    book: &[u32],
+    n: Counts,
+    s: Shelf,
+    from: Depot,
+    q: Link,
+    taken: usize,
+    count: usize,
+) -> bool
+    requires { ⌜ (length (now book) ≡ bookWords) × (n .depots ≤ mostDepots) × (0 < n .shelves) × (q .0 < links) × (taken ≤ count) × (count ≤ linkRoom) ⌝ }
+    ensures { λ r. ⌜ r ≡ messagesFit n (now (book .entry)) (s .0) (from .0) (q .0) taken count ⌝ }
+{
+    if !copies_fit(book, n, s, from, q, taken) {
+        return false;
+    }
+    waiting_fit(book, n, s, from, q, taken, count - taken)
+}
+
 // Whether the link of a shelf out of a depot is fit.
 pub fn link_fits(book: &[u32], n: Counts, s: Shelf, from: Depot, q: Link) -> bool
     requires { ⌜ (length (now book) ≡ bookWords) × (n .depots ≤ mostDepots) × (0 < n .shelves) × (q .0 < links) ⌝ }
     ensures { λ r. ⌜ r ≡ linkFit n (now (book .entry)) (s .0) (from .0) (q .0) ⌝ }
 {
     let count = held_of(book, q);
-    let done = taken_of(book, q);
+    let taken = taken_of(book, q);
     if LINK_ROOM < count {
         return false;
     }
-    if count < done {
+    if count < taken {
         return false;
     }
-    if !copies_fit(book, n, s, from, q, done) {
-        return false;
+    if count == 0 {
+        return true;
     }
-    messages_fit(book, n, s, from, q, done, count - done)
+    messages_fit(book, n, s, from, q, taken, count)
 }
