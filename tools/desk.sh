@@ -45,13 +45,14 @@ stands_on() {
 # How long a crate's proof took last, if that is known.
 last_time() { awk -v name="$1" '$1 == name { s = $2 } END { if (s != "") print " (last time " s " s)" }' target/seconds; }
 
-# Tells each crate when its proof has begun: then rt has its log, and the log no verdict yet.
+# Tells each crate that is being proved, once. Then rt has its log, and the log has no verdict; twice in a row, for what is unchanged takes a moment too.
 progress() {
-    local i name told=' '
+    local i name open=' ' told=' '
     while sleep 0.5; do
         for i in "${!crates[@]}"; do
             name=${crates[i]}
             if [[ $told == *" $name "* || ! -e target/log/$name.out ]] || grep -q "^rt: $name " "target/log/$name.out"; then continue; fi
+            if [[ $open != *" $name "* ]]; then open+="$name "; continue; fi
             told+="$name "
             tell "proving $name, $((i + 1)) of ${#crates[@]}$(last_time "$name")"
         done

@@ -34,6 +34,8 @@ case $#:${1-} in
 esac
 command=$1
 shift
+if [ -e "$root/target" ]; then locked=$(find "$root/target" -maxdepth 2 ! -writable -print -quit); else locked=$(find "$root" -maxdepth 0 ! -writable); fi
+[ -z "$locked" ] || [ "$command" = setup ] || [ "$command" = emulator ] || fail "$(id -un) cannot write $locked: please use a clone of your own"
 
 # Those of the packages named that are not installed.
 missing() {
@@ -88,9 +90,6 @@ aarch64)
 esac
 [ ${#lacks[@]} = 0 ] || install "${lacks[@]}"
 case $command in setup | emulator) exit 0 ;; esac
-
-if [ -e "$root/target" ]; then locked=$(find "$root/target" -maxdepth 2 ! -writable -print -quit); else locked=$(find "$root" -maxdepth 0 ! -writable); fi
-[ -z "$locked" ] || fail "$(id -un) cannot write $locked: please use a clone of your own"
 
 cargo=cargo cc=cc runner=()
 if [ "$machine" = aarch64 ]; then
