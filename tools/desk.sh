@@ -28,18 +28,18 @@ case $#:${1-} in
 *) { echo "desk.sh: it takes no arguments: lines come from standard input"; usage; } >&2; exit 2 ;;
 esac
 
-# The crates that one stands on, in the order of their proofs, and that one.
+# The crates that one stands on and that one, in the order in which rt proves them: by how many stand below each other.
 stands_on() {
     awk -v want="$1" '
         function visit(name, below, i, n) {
-            if (!(name in deps) || name in seen) return
-            seen[name]
+            if (!(name in deps) || name in level) return
+            level[name] = 0
             n = split(deps[name], below, " ")
-            for (i = 1; i <= n; i++) visit(below[i])
-            print name
+            for (i = 1; i <= n; i++) { visit(below[i]); if (below[i] in level && level[below[i]] >= level[name]) level[name] = level[below[i]] + 1 }
+            print level[name], name
         }
         /^[A-Za-z_]/ { name = $1; sub(/:.*/, "", name); sub(/^[^:]*:/, ""); deps[name] = $0 }
-        END { visit(want) }' crates.txt
+        END { visit(want) }' crates.txt | sort -sn -k1,1 | cut -d' ' -f2
 }
 
 # How long a crate's proof took last, if that is known.
