@@ -77,7 +77,10 @@ if [ -t 2 ]; then
     watcher=$!
     trap 'kill "$watcher" 2>/dev/null' EXIT
 fi
-rt check desk </dev/null >target/desk.log 2>&1 || { tail -n 20 target/desk.log >&2; fail "the desk is not proved; target/desk.log has all that rt said"; }
+if ! rt check desk </dev/null >target/desk.log 2>&1; then
+    { grep -E '^\S+: error|^note: \S+:[0-9]+:|^rt: .*(NOT PROVED|FAILED)' target/desk.log || tail -n 5 target/desk.log; } | cut -c1-300 | sed -n 1,8p >&2
+    fail "the desk is not proved; target/desk.log has all that rt said"
+fi
 [ -z "${watcher-}" ] || kill "$watcher"
 sed -nE 's/^rt: (\S+) proved \(([0-9]+) s\)$/\1 \2/p' target/desk.log >>target/seconds
 [ $SECONDS -lt 5 ] || tell "the desk is proved ($SECONDS s)"
