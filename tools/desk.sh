@@ -81,7 +81,7 @@ if ! rt check desk </dev/null >target/desk.log 2>&1; then
     { grep -E '^\S+: error|^note: \S+:[0-9]+:|^rt: .*(NOT PROVED|FAILED)' target/desk.log || tail -n 5 target/desk.log; } | cut -c1-300 | sed -n 1,8p >&2
     fail "the desk is not proved; target/desk.log has all that rt said"
 fi
-[ -z "${watcher-}" ] || kill "$watcher"
+[ -z "${watcher-}" ] || { kill "$watcher"; wait "$watcher"; } 2>/dev/null || true
 sed -nE 's/^rt: (\S+) proved \(([0-9]+) s\)$/\1 \2/p' target/desk.log >>target/seconds
 [ $SECONDS -lt 5 ] || tell "the desk is proved ($SECONDS s)"
 
@@ -93,5 +93,5 @@ if [ "$(uname -m)" != x86_64 ]; then
     [ -x "$emulator" ] || { tools/rust.sh emulator </dev/null >&2; emulator=qemu-x86_64; }
     run=("$emulator" "$kit/lib/ld-linux-x86-64.so.2" --library-path "$kit/lib" target/bin/desk)
 fi
-[ ! -t 0 ] || [ ! -t 2 ] || echo "The desk. S 2 2 4 2 0 1 sets up a register, W 0 1 9131 writes a date; docs/DESK.md has every line. Ctrl-D ends." >&2
+[ ! -t 0 ] || [ ! -t 2 ] || echo "The desk: S 2 2 4 2 0 1 sets up a register; docs/DESK.md has every line; Ctrl-D ends" >&2
 exec "${run[@]}" 9>&-
