@@ -10,4 +10,8 @@ pub mod PaperLaws
 pub mod NeverBadBook
 pub mod NeverBadAnswer
 pub mod Unique
+pub mod LocalBasics
+pub mod LocalParts
+pub mod LocalMoves
+pub mod LocalAlike
 pub mod LocalTick
