@@ -15,3 +15,5 @@ pub mod LocalParts
 pub mod LocalMoves
 pub mod LocalAlike
 pub mod LocalTick
+pub mod LocalTake
+pub mod LocalShow
