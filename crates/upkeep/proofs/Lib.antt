@@ -17,3 +17,6 @@ pub mod LocalAlike
 pub mod LocalTick
 pub mod LocalTake
 pub mod LocalShow
+pub mod LocalRefresh
+pub mod LocalHome
+pub mod LocalRead

@@ -7,7 +7,7 @@ use mathlib.Core.Path.{_≡_, refl, _∙_, ap, ap₂}
 use mathlib.Core.List.{List}
 use mathlib.Core.Bool.{Bool, true, _&&_}
 use lib.Dec.{leb, ltb, eqb}
-use lib.ListN.{getD}
+use lib.ListN.{length, getD}
 use borrow.Author.Tests.{leb-true, eqb-false}
 use Rattle.order.specs.Vector.{Vec, covered}
 use Rattle.order.specs.Record.{bearingOf}
@@ -32,6 +32,10 @@ head-open l q h = (leb-true _ _ (and-left (leb (held l q) 16) _ h), leb-true _ _
 pub link-headed : (n : Counts) (l : List ℕ) (s from q : ℕ) → linkFit n l s from q ≡ true → headFit l q ≡ true
 unfolding linkFit
 link-headed n l s from q h = and-left (headFit l q) _ h
+
+pub base-counted : (l : List ℕ) → baseFit l ≡ true → countsFit (countsOf l) ≡ true
+unfolding baseFit
+base-counted l h = and-left (countsFit (countsOf l)) _ (and-right (eqb (length l) bookWords) _ h)
 
 module _ (S : ℕ → Type 0) (l m : List ℕ) (A : Agree S l m) where
   -- ---- the counts and the homes
