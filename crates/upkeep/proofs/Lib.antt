@@ -20,3 +20,5 @@ pub mod LocalShow
 pub mod LocalRefresh
 pub mod LocalHome
 pub mod LocalRead
+pub mod LocalWrite
+pub mod LocalCalls
