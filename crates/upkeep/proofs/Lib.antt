@@ -16,6 +16,7 @@ pub mod LocalMoves
 pub mod LocalAlike
 pub mod LocalTick
 pub mod LocalTake
+pub mod LocalSweep
 pub mod LocalShow
 pub mod LocalRefresh
 pub mod LocalHome

@@ -28,7 +28,8 @@ alike-by S l m r e reply D A = record { number = e; reply = reply; book = book; 
     book : Agree S (bookAfter l r) (bookAfter m r)
     book =
         unfold bookAfter after in
-        pick-alike (Agree S) (ap (λ (k : ℕ). eqb k 0) e) (λ z. let B = D (eqb-true _ 0 z) in record { size = B .size; words = λ j k. B .words j (inl k) }) λ z. A
+        pick-alike (Agree S) (ap (λ (k : ℕ). eqb k 0) e)
+        (λ z. let B = D (eqb-true _ 0 z) in record { size = B .size; words = λ j k. B .words j (inl k) }) λ z. A
 
     written : (j : ℕ) → Written l r j → getD (bookAfter l r) j 0 ≡ getD (bookAfter m r) j 0
     written j w =

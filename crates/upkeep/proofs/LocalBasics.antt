@@ -38,7 +38,9 @@ pub every-alike : {n k : ℕ} (p q : ℕ → Bool) → n ≡ k → ((i : ℕ) �
 every-alike {n} p q e h = every-same n p q h ∙ ap (λ (x : ℕ). every x q) e
 
 -- the rows of a table, one after the other
-pub first-alike : {t u : Bool} (k : ℕ) (rows others : List (Bool × ℕ)) → t ≡ u → (t ≡ false → first rows ≡ first others) → first ((t, k) ∷ rows) ≡ first ((u, k) ∷ others)
+pub first-alike :
+    {t u : Bool} (k : ℕ) (rows others : List (Bool × ℕ)) → t ≡ u → (t ≡ false → first rows ≡ first others) →
+    first ((t, k) ∷ rows) ≡ first ((u, k) ∷ others)
 unfolding first
 first-alike {t} k rows others e h = go t h ∙ ap (λ (b : Bool). pick b k (first others)) e
   where

@@ -1,12 +1,13 @@
 -- Every request is local: a setup names no word and writes them all; the calls, one by one, stand in the files before.
 -- Assumes nothing.
 use Prim.Native.Nat.{ℕ}
-use mathlib.Core.Path.{_≡_, refl, sym, _∙_, ap}
+use mathlib.Core.Path.{_≡_, refl, sym, _∙_, ap, subst}
 use mathlib.Core.Logic.{_⊎_}
 use mathlib.Core.List.{List, [], _∷_}
 use mathlib.Core.Bool.{not}
 use lib.Dec.{eqb}
-use lib.ListN.{length, getD, replicate, length-replicate}
+use lib.ListN.{length, getD, set, replicate, length-set, length-replicate}
+use lib.Seq.{getD-set-other}
 use Rattle.paper.specs.Calls.{read, write, tick, take, refresh}
 use Rattle.book.specs.declared.parts.Counts.{Counts}
 use Rattle.book.specs.Words.{put}
@@ -30,7 +31,8 @@ use Rattle.upkeep.proofs.LocalWrite.{write-alike, write-stays, write-si
 
 length-set-up : (n : Counts) (homes : List ℕ) → length (setUp n homes) ≡ bookWords
 unfolding setUp
-length-set-up n homes = length-put (put (replicate bookWords 0) 0 _) (homeAt 0) homes ∙ length-put (replicate bookWords 0) 0 _ ∙ length-replicate {A = ℕ} bookWords 0
+length-set-up n homes =
+    length-put (put (replicate bookWords 0) 0 _) (homeAt 0) homes ∙ length-put (replicate bookWords 0) 0 _ ∙ length-replicate {A = ℕ} bookWords 0
 
 setup-number : (l m : List ℕ) (n : Counts) (homes : List ℕ) → length l ≡ length m → setupNumber l n homes ≡ setupNumber m n homes
 unfolding setupNumber
@@ -75,3 +77,9 @@ done-size l (call (refresh d s)) z = refresh-size l d s
 pub the-calls-are-local : Local
 the-calls-are-local =
     record { local = alike; stays = λ l r j out. stays-by l r j (done-stays l r j) out; size = λ l r. size-by l r (done-size l r) }
+
+-- a word that is not named may hold anything: whatever is put there, the request is answered the same, and every other word is the same afterwards
+pub unnamed-word : (l : List ℕ) (r : Request) (j x : ℕ) → (Named l r j → ⊥) → Alike (λ (i : ℕ). i ≡ j → ⊥) l (set l j x) r
+unnamed-word l r j x out =
+    alike (λ (i : ℕ). i ≡ j → ⊥) l (set l j x) r (λ i n e. out (subst (Named l r) e n))
+    (record { size = sym (length-set l j x); words = λ i f. sym (getD-set-other l j i x 0 f) })

@@ -56,8 +56,8 @@ module _ (l : List ℕ) (c k : ℕ) (f : baseFit l ≡ true) (hc : c < countsOf 
           (λ (n : Counts) (e : ℕ).
           Agree S (settled (countsOf l .depots) (home l c) (shelfOf l k) (crewVector l c) l) (settled (n .depots) e (k % n .shelves) (crewVector m c) m))
           counts same-home
-          (settle-agrees (countsOf l) l (base-open l f .within) (home l c) (shelfOf l k) homed (shelf-in (countsOf l) (base-open l f .within) k) h (crewVector l c) S m
-          (crewVector m c) (λ j x. W j (of-home x)) (λ x z g. same-crew x z) A)
+          (settle-agrees (countsOf l) l (base-open l f .within) (home l c) (shelfOf l k) homed (shelf-in (countsOf l) (base-open l f .within) k) h
+          (crewVector l c) S m (crewVector m c) (λ j x. W j (of-home x)) (λ x z g. same-crew x z) A)
 
       pub read-record-agrees : readRecord l c k ≡ readRecord m c k
       unfolding readRecord
@@ -68,4 +68,5 @@ module _ (l : List ℕ) (c k : ℕ) (f : baseFit l ≡ true) (hc : c < countsOf 
       getD (settledHome l c k) j 0 ≡ getD l j 0
   unfolding settledHome
   settled-home-stays h j out =
-      settle-stays (countsOf l) l (base-open l f .within) (home l c) (shelfOf l k) homed (shelf-in (countsOf l) (base-open l f .within) k) h (crewVector l c) j out
+      settle-stays (countsOf l) l (base-open l f .within) (home l c) (shelfOf l k) homed (shelf-in (countsOf l) (base-open l f .within) k) h
+      (crewVector l c) j out

@@ -37,14 +37,16 @@ module _ (S : ℕ → Type 0) where
       set-agrees S p q refl (ap₂ max (B .words (at + x) (here x k f)) (same x k f)) B
 
   -- a record stored if greater
-  pub kept-in-agrees : (n d : ℕ) (r v w : List ℕ) → ((j : ℕ) → In (storedAt d (bearingOf r)) 9 j → S j) → Agree S v w → Agree S (keptIn n d r v) (keptIn n d r w)
+  pub kept-in-agrees :
+      (n d : ℕ) (r v w : List ℕ) → ((j : ℕ) → In (storedAt d (bearingOf r)) 9 j → S j) → Agree S v w → Agree S (keptIn n d r v) (keptIn n d r w)
   unfolding keptIn
   kept-in-agrees n d r v w here A =
       pick-alike (Agree S) (ap (λ (z : List ℕ). above n (rankOf r) (rankOf z)) (part-agrees S v w 9 refl here A)) (λ e. put-agrees S v w refl refl A) λ e. A
 
   -- a link closed up, and its head
   pub closed-up-agrees :
-      (q j g h : ℕ) (v w : List ℕ) → ((i : ℕ) → In (slotAt q (j + g)) (10 * (h - (j + g))) i → S i) → Agree S v w → Agree S (closedUp q j g h v) (closedUp q j g h w)
+      (q j g h : ℕ) (v w : List ℕ) → ((i : ℕ) → In (slotAt q (j + g)) (10 * (h - (j + g))) i → S i) → Agree S v w →
+      Agree S (closedUp q j g h v) (closedUp q j g h w)
   unfolding closedUp
   closed-up-agrees q j g h v w here A =
       put-agrees S (put v _ _) (put w _ _) refl refl (put-agrees S v w refl (part-agrees S v w (10 * (h - (j + g))) refl here A) A)
@@ -56,7 +58,8 @@ module _ (S : ℕ → Type 0) where
   -- ---- taking
 
   moved-on-agrees :
-      (q h t : ℕ) (x v w : List ℕ) → ((i : ℕ) → In (slotAt q (t + 1)) (10 * (h - (t + 1))) i → S i) → Agree S v w → Agree S (movedOn q h t x v) (movedOn q h t x w)
+      (q h t : ℕ) (x v w : List ℕ) → ((i : ℕ) → In (slotAt q (t + 1)) (10 * (h - (t + 1))) i → S i) → Agree S v w →
+      Agree S (movedOn q h t x v) (movedOn q h t x w)
   unfolding movedOn
   moved-on-agrees q h t x v w here A =
       pick-alike (Agree S) refl (λ e. set-agrees S (closedUp q t 1 h v) (closedUp q t 1 h w) refl refl (closed-up-agrees q t 1 h v w here A)) λ e.
@@ -64,7 +67,8 @@ module _ (S : ℕ → Type 0) where
 
   pub took-agrees :
       (d s from : ℕ) (v w : List ℕ) → held v (linkOf s from d) ≡ held w (linkOf s from d) → taken v (linkOf s from d) ≡ taken w (linkOf s from d) →
-      taken v (linkOf s from d) < held v (linkOf s from d) → ((i : ℕ) → In (slotAt (linkOf s from d) 0) (10 * held v (linkOf s from d)) i → S i) → Agree S v w →
+      taken v (linkOf s from d) < held v (linkOf s from d) → ((i : ℕ) → In (slotAt (linkOf s from d) 0) (10 * held v (linkOf s from d)) i → S i) →
+      Agree S v w →
       Agree S (took d s from v) (took d s from w)
   unfolding took
   took-agrees d s from v w eh et more here A =
@@ -73,7 +77,8 @@ module _ (S : ℕ → Type 0) where
       let h = held v q in
       subst₃
       (λ (y z : ℕ) (x : List ℕ).
-      Agree S (movedOn q h t (slot v q t) (set v (seenAt d s + from) (stampFrom from (slot v q t)))) (movedOn q y z x (set w (seenAt d s + from) (stampFrom from x))))
+      Agree S (movedOn q h t (slot v q t) (set v (seenAt d s + from) (stampFrom from (slot v q t))))
+      (movedOn q y z x (set w (seenAt d s + from) (stampFrom from x))))
       eh et
       (part-agrees S v w 10 (ap (slotAt q) et) (λ j i. let a = i .0 in let b = i .1 in here j (omega arith, omega arith)) A)
       (moved-on-agrees q h t (slot v q t) (set v (seenAt d s + from) (stampFrom from (slot v q t))) (set w (seenAt d s + from) (stampFrom from (slot v q t)))
@@ -99,7 +104,8 @@ module _ (S : ℕ → Type 0) where
         let a = slotAt q (held v q) in
         let T : ℕ → Type 0 = λ (z : ℕ). S z ⊎ In a (length x) z in
         pick-alike (λ (y z : List ℕ). getD y j 0 ≡ getD z j 0) refl (λ e. absurd (f (eqb-true to d e))) λ e.
-        subst (λ (k : ℕ). getD (set (put v a x) (heldAt q) (held v q + 1)) j 0 ≡ getD (set (put w (slotAt q k) x) (heldAt q) (k + 1)) j 0) (A .words _ (here f))
+        subst (λ (k : ℕ). getD (set (put v a x) (heldAt q) (held v q + 1)) j 0 ≡ getD (set (put w (slotAt q k) x) (heldAt q) (k + 1)) j 0)
+        (A .words _ (here f))
         (set-agrees T (put v a x) (put w a x) refl refl (put-brings S v w a x room A) .words j (inr i))
 
 -- ---- sending on every link out
@@ -138,7 +144,9 @@ module _
           let y = same in
           omega arith
 
-      own : (j : ℕ) → (i ≡ d → ⊥) → In (slotAt (linkOf s d i) (held l (linkOf s d i))) 10 j → getD (sentTo d s x i v) j 0 ≡ getD (sentTo d s x i (sentUpTo i d s stamp x m)) j 0
+      own :
+          (j : ℕ) → (i ≡ d → ⊥) → In (slotAt (linkOf s d i) (held l (linkOf s d i))) 10 j →
+          getD (sentTo d s x i v) j 0 ≡ getD (sentTo d s x i (sentUpTo i d s stamp x m)) j 0
       own j f y =
           sent-to-brings T d s x i v (sentUpTo i d s stamp x m) (λ g. inl (here i k g)) B f (room f) j
           (subst₂ (λ (a b : ℕ). In (slotAt (linkOf s d i) a) b j) (sym same) (sym ten) y)

@@ -20,8 +20,9 @@ use Rattle.fit.specs.Fit.{countsFit, homeFit, homesFit, inRange, othersInRange,
 use Rattle.fit.specs.Fit.{headFit, messagesFit, linkFit, keptFit, storedFit}
 use Rattle.fit.specs.Named.{headsOutFit, placesFit, arrivalFit, showFit, tickParts, takeParts, refreshParts, homeParts, baseFit}
 use Rattle.shelf.specs.Send.{roomy}
-use Rattle.upkeep.specs.Local.{Agree, In, BaseWord, a-count, a-home, LinkWord, of-head, of-messages, ArrivalWord, of-link, of-place, ShowWord, of-stable, of-arrival}
-use Rattle.upkeep.specs.Local.{TickWord, of-clock, of-head-out, TakeWord, of-seen, of-sender, RefreshWord, of-seens, of-shelf, HomeWord, of-crew, of-stored, of-home}
+use Rattle.upkeep.specs.Local.{Agree, In, BaseWord, a-count, a-home, LinkWord, of-head, of-messages, ArrivalWord, of-link, of-place}
+use Rattle.upkeep.specs.Local.{ShowWord, of-stable, of-arrival, TickWord, of-clock, of-head-out, TakeWord, of-seen, of-sender}
+use Rattle.upkeep.specs.Local.{RefreshWord, of-seens, of-shelf, HomeWord, of-crew, of-stored, of-home}
 use Rattle.upkeep.proofs.LocalBasics.{and-alike, or-alike, every-alike, part-agrees}
 
 -- what a fit head says
@@ -138,7 +139,8 @@ module _ (S : ℕ → Type 0) (l m : List ℕ) (A : Agree S l m) where
   pub take-parts-agree : (n : Counts) (d s from : ℕ) → ((j : ℕ) → TakeWord l d s from j → S j) → takeParts n l d s from ≡ takeParts n m d s from
   unfolding takeParts
   take-parts-agree n d s from W =
-      ap₂ (λ (x : ℕ) (b : Bool). leb x end && b) (A .words (seenAt d s + from) (W _ (of-seen refl))) (link-agrees (linkOf s from d) (λ j x. W j (of-sender x)) n s from)
+      ap₂ (λ (x : ℕ) (b : Bool). leb x end && b) (A .words (seenAt d s + from) (W _ (of-seen refl)))
+      (link-agrees (linkOf s from d) (λ j x. W j (of-sender x)) n s from)
 
   pub refresh-parts-agree : (n : Counts) (d s : ℕ) → d < n .depots → ((j : ℕ) → RefreshWord n l d s j → S j) → refreshParts n l d s ≡ refreshParts n m d s
   unfolding refreshParts seenFit othersInRange

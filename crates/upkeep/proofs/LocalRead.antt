@@ -25,7 +25,8 @@ use Rattle.register.specs.Table.{shelfOf, readNumber}
 use Rattle.register.specs.Calls.{settledHome, readRecord, readBook}
 use Rattle.register.proofs.Numbers.{ReadDone, read-done}
 use Rattle.upkeep.specs.Requests.{call, Reply, numberAt, replyTo, changedBy}
-use Rattle.upkeep.specs.Local.{Agree, BaseWord, of-crew, of-home, ReadWord, Named, based, by-read, FoundWord, the-crew, the-home, Changed, reading, Alike}
+use Rattle.upkeep.specs.Local.{Agree, BaseWord, of-crew, of-home, ReadWord, Named, based, by-read}
+use Rattle.upkeep.specs.Local.{FoundWord, the-crew, the-home, Changed, reading, Alike}
 use Rattle.upkeep.proofs.LocalBasics.{or-alike, and-alike, first-alike, pick-alike, agree-fewer}
 use Rattle.upkeep.proofs.LocalParts.{counts-agree, base-agrees}
 use Rattle.upkeep.proofs.LocalMoves.{merged-agrees}

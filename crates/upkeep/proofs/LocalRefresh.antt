@@ -37,7 +37,8 @@ refreshes l d s j (refreshing w) = w
 refresh-shows : (l : List ℕ) (d s : ℕ) → RefreshDone l d s → showFit (countsOf l) l d s ≡ true
 unfolding refreshParts
 refresh-shows l d s t =
-    and-right (every (countsOf l .shelves) (seenFit (countsOf l) l d)) _ (sym (refresh-named l d s (refresh-based l d s (t .fits)) (t .depot) (t .shelf)) ∙ t .fits)
+    and-right (every (countsOf l .shelves) (seenFit (countsOf l) l d)) _
+    (sym (refresh-named l d s (refresh-based l d s (t .fits)) (t .depot) (t .shelf)) ∙ t .fits)
 
 -- the lowest stamp seen, of two books that agree on the stamps seen of the other depots
 lowest-agrees :
@@ -76,8 +77,12 @@ module _ (S : ℕ → Type 0) (l m : List ℕ) (d s : ℕ) (H : (j : ℕ) → Na
       let f = refresh-based l d s (t .fits) in
       let n = countsOf l in
       let W : (j : ℕ) → RefreshWord (countsOf l) l d s j → S j = λ j x. H j (by-refresh f (t .depot) (t .shelf) x) in
-      agree-fewer S _ _ _ (λ j k. ⊎-elim (λ (y : S j). y) (λ (y : Changed l (call (refresh d s)) j). W j (of-shelf (settled-named n l d s j (refreshes l d s j y)))) k)
-      (subst (λ (k : Counts). Agree S (settled (n .depots) d s (lowestSeen (n .depots) (n .shelves) d l) l) (settled (k .depots) d s (lowestSeen (k .depots) (k .shelves) d m) m)) counts
+      agree-fewer S _ _ _
+      (λ j k. ⊎-elim (λ (y : S j). y) (λ (y : Changed l (call (refresh d s)) j). W j (of-shelf (settled-named n l d s j (refreshes l d s j y)))) k)
+      (subst
+      (λ (k : Counts).
+      Agree S (settled (n .depots) d s (lowestSeen (n .depots) (n .shelves) d l) l) (settled (k .depots) d s (lowestSeen (k .depots) (k .shelves) d m) m))
+      counts
       (settle-agrees n l (base-open l f .within) d s (t .depot) (t .shelf) (refresh-shows l d s t) _ S m _ (λ j x. W j (of-shelf x))
       (lowest-agrees (n .depots) (n .shelves) d l m (λ r x y z g. A .words (seenAt d r + x) (W _ (of-seens r x y z g refl)))) A))
 
@@ -91,7 +96,8 @@ module _ (l : List ℕ) (d s : ℕ) where
   unfolding numberAt changedBy refreshBook
   refresh-stays j z out =
       let t = refresh-done l d s z in
-      settle-stays (countsOf l) l (base-open l (refresh-based l d s (t .fits)) .within) d s (t .depot) (t .shelf) (refresh-shows l d s t) _ j λ w. out (refreshing w)
+      settle-stays (countsOf l) l (base-open l (refresh-based l d s (t .fits)) .within) d s (t .depot) (t .shelf) (refresh-shows l d s t) _ j λ w.
+      out (refreshing w)
 
   pub refresh-size : length (changedBy l (call (refresh d s))) ≡ length l
   unfolding changedBy refreshBook

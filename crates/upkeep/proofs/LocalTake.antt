@@ -94,8 +94,10 @@ module _ (S : ℕ → Type 0) (l m : List ℕ) (d s from : ℕ) (H : (j : ℕ) �
       let h = take-headed l d s from t in
       let w : (j : ℕ) → TakeWord l d s from j → S j = λ j x. H j (by-take f (t .depot) (t .sender) (t .shelf) (t .apart) x) in
       let K : (j : ℕ) → LinkWord l (linkOf s from d) j → S j = λ j x. w j (of-sender x) in
-      agree-fewer S _ _ _ (λ j k. ⊎-elim (λ (y : S j). y) (λ (y : Changed l (call (take d s from)) j). w j (took-named l d s from h j (takes l d s from j y))) k)
-      (took-agrees S d s from l m (held-agrees S l m A (linkOf s from d) K) (taken-agrees S l m A (linkOf s from d) K) (t .more) (λ j i. K j (of-messages h i)) A)
+      agree-fewer S _ _ _
+      (λ j k. ⊎-elim (λ (y : S j). y) (λ (y : Changed l (call (take d s from)) j). w j (took-named l d s from h j (takes l d s from j y))) k)
+      (took-agrees S d s from l m (held-agrees S l m A (linkOf s from d) K) (taken-agrees S l m A (linkOf s from d) K) (t .more)
+      (λ j i. K j (of-messages h i)) A)
 
   pub take-alike : Alike S l m (call (take d s from))
   unfolding numberAt replyTo changedBy

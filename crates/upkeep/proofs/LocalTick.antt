@@ -24,7 +24,8 @@ use Rattle.register.specs.Calls.{tickBook}
 use Rattle.register.proofs.Numbers.{TickDone, tick-done}
 use Rattle.register.proofs.FitReady.{roomy-free}
 use Rattle.upkeep.specs.Requests.{call, Reply, numberAt, replyTo, changedBy}
-use Rattle.upkeep.specs.Local.{Agree, BaseWord, TickWord, of-clock, of-head-out, Named, based, by-tick, SentWord, the-clock, the-count, the-slot, Changed, ticking, Alike}
+use Rattle.upkeep.specs.Local.{Agree, BaseWord, TickWord, of-clock, of-head-out, Named, based, by-tick}
+use Rattle.upkeep.specs.Local.{SentWord, the-clock, the-count, the-slot, Changed, ticking, Alike}
 use Rattle.upkeep.proofs.LocalBasics.{or-alike, and-alike, first-alike, agree-fewer}
 use Rattle.upkeep.proofs.LocalParts.{counts-agree, base-agrees, clock-agrees, count-held, tick-parts-agree, room-agrees}
 use Rattle.upkeep.proofs.LocalMoves.{SlotsOut, sent-agrees}
@@ -32,7 +33,8 @@ use Rattle.upkeep.proofs.LocalAlike.{alike-by, stays-by, size-by}
 
 -- what sending writes is named, but for the free slots
 pub sent-named :
-    (S : ℕ → Type 0) (n : Counts) (l : List ℕ) (d s : ℕ) → ((j : ℕ) → TickWord n d s j → S j) → (j : ℕ) → SentWord n l d s j → S j ⊎ SlotsOut (n .depots) d s l j
+    (S : ℕ → Type 0) (n : Counts) (l : List ℕ) (d s : ℕ) → ((j : ℕ) → TickWord n d s j → S j) → (j : ℕ) → SentWord n l d s j →
+    S j ⊎ SlotsOut (n .depots) d s l j
 sent-named S n l d s W j (the-clock e) = inl (W j (of-clock e))
 sent-named S n l d s W j (the-count to k f e) = inl (W j (of-head-out to k f (omega arith, omega arith)))
 sent-named S n l d s W j (the-slot to k f i) = inr (to, k, f, i)
@@ -77,8 +79,8 @@ module _ (S : ℕ → Type 0) (l m : List ℕ) (d s : ℕ) (H : (j : ℕ) → Na
       let st = clock l d s + 1 in
       let C = sent-agrees S n d s st (beat st) refl l m (O .full) F (count-held S l m A (countsOf l) d s W) A in
       agree-fewer _ _ _ _ (λ j k. ⊎-elim (λ (y : S j). inl y) (λ (y : Changed l (call (tick d s)) j). sent-named S (countsOf l) l d s W j (ticks l d s j y)) k)
-      (subst₂ (λ (k z : ℕ). Agree (λ (j : ℕ). S j ⊎ SlotsOut n d s l j) (sent n d s st (beat st) l) (sent k d s z (beat z) m)) (ap (λ (k : Counts). k .depots) counts)
-      (ap (λ (k : ℕ). k + 1) (clock-agrees S l m A (countsOf l) d s W)) C)
+      (subst₂ (λ (k z : ℕ). Agree (λ (j : ℕ). S j ⊎ SlotsOut n d s l j) (sent n d s st (beat st) l) (sent k d s z (beat z) m))
+      (ap (λ (k : Counts). k .depots) counts) (ap (λ (k : ℕ). k + 1) (clock-agrees S l m A (countsOf l) d s W)) C)
 
   pub tick-alike : Alike S l m (call (tick d s))
   unfolding numberAt replyTo changedBy

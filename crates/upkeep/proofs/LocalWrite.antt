@@ -162,14 +162,17 @@ module _ (S : ℕ → Type 0) (l m : List ℕ) (c k value : ℕ) (H : (j : ℕ) 
         (λ j x. R j (of-stored (subst (λ (b : ℕ). In (storedAt (home l c) b) 9 j) (made-bearing l c k value) x))) crewed)
 
     -- what a write writes is named, but for the free slots
-    named : (j : ℕ) → WroteWord (countsOf l) l c k (home l c) (shelfOf l k) j → S j ⊎ SlotsOut (countsOf l .depots) (home l c) (shelfOf l k) (stocked l c k value) j
+    named :
+        (j : ℕ) → WroteWord (countsOf l) l c k (home l c) (shelfOf l k) j →
+        S j ⊎ SlotsOut (countsOf l .depots) (home l c) (shelfOf l k) (stocked l c k value) j
     named j (the-own e) = let a = base-open l F .homes c (t .crew) in inl (R j (of-crew (omega arith, omega arith)))
     named j (the-stored i) = inl (R j (of-stored i))
     named j (the-shelf w) = inl (R j (of-home (settled-named (countsOf l) l (home l c) (shelfOf l k) j w)))
     named j (the-copy w) =
         ⊎-elim (λ (y : S j). inl y)
         (λ (y : SlotsOut (countsOf l .depots) (home l c) (shelfOf l k) l j).
-        inr (y .0, y .1, y .2, subst (λ (h : ℕ). In (slotAt (linkOf (shelfOf l k) (home l c) (y .0)) h) 10 j) (sym (out-stays l c k value t (y .0) (y .1) (y .2))) (y .3)))
+        let e = sym (out-stays l c k value t (y .0) (y .1) (y .2)) in
+        inr (y .0, y .1, y .2, subst (λ (h : ℕ). In (slotAt (linkOf (shelfOf l k) (home l c) (y .0)) h) 10 j) e (y .3)))
         (sent-named S (countsOf l) l (home l c) (shelfOf l k) T j w)
 
     book : Agree (λ (j : ℕ). S j ⊎ Changed l (call (write c k value)) j) (writeBook l c k value) (writeBook m c k value)
@@ -194,7 +197,8 @@ module _ (S : ℕ → Type 0) (l m : List ℕ) (c k value : ℕ) (H : (j : ℕ) 
 
 module _ (l : List ℕ) (c k value : ℕ) where
   pub write-stays :
-      (j : ℕ) → numberAt l (call (write c k value)) ≡ 0 → (Changed l (call (write c k value)) j → ⊥) → getD (changedBy l (call (write c k value))) j 0 ≡ getD l j 0
+      (j : ℕ) → numberAt l (call (write c k value)) ≡ 0 → (Changed l (call (write c k value)) j → ⊥) →
+      getD (changedBy l (call (write c k value))) j 0 ≡ getD l j 0
   unfolding numberAt changedBy writeBook writtenCrew
   write-stays j z out =
       let t = write-done l c k value z in
@@ -205,7 +209,8 @@ module _ (l : List ℕ) (c k value : ℕ) where
       sent-off n d s (newStamp l c k) (copyKind ∷ r) (stocked l c k value) (le-of-eq (ap suc (length-made l c k value))) (free l c k value t) j
       (λ e. out (writing (the-copy (the-clock e))))
       (λ to y f. (
-        subst (λ (h : ℕ). Off (slotAt (linkOf s d to) h) 10 j) (sym (out-stays l c k value t to y f)) (λ a b. out (writing (the-copy (the-slot to y f (a, b))))),
+        subst (λ (h : ℕ). Off (slotAt (linkOf s d to) h) 10 j) (sym (out-stays l c k value t to y f))
+            (λ a b. out (writing (the-copy (the-slot to y f (a, b))))),
         λ e. out (writing (the-copy (the-count to y f e))),
       ))
       ∙ kept-in-off n d r (writtenCrew l c k) j (le-of-eq (length-made l c k value))

@@ -10,7 +10,8 @@ use lib.ListN.{length, getD}
 use Rattle.order.specs.Record.{recordWords, bearingOf}
 use Rattle.paper.specs.Calls.{Call, read, write, tick, take, refresh}
 use Rattle.book.specs.declared.parts.Counts.{Counts}
-use Rattle.book.specs.Layout.{slotWords, homeAt, crewAt, clockAt, stableAt, seenAt, linkOf, heldAt, slotAt, storedAt, countsOf, home, held, taken, slot, recordOf}
+use Rattle.book.specs.Layout.{slotWords, homeAt, crewAt, clockAt, stableAt, seenAt, linkOf, heldAt, slotAt, storedAt}
+use Rattle.book.specs.Layout.{countsOf, home, held, taken, slot, recordOf}
 use Rattle.fit.specs.Fit.{countsFit, headFit, linkFit}
 use Rattle.fit.specs.Named.{baseFit}
 use Rattle.upkeep.specs.Requests.{Request, setup, call, numberAt, replyTo, bookAfter}
