@@ -1,7 +1,6 @@
 -- A crew's home shelf, raised with the crew's vector and shown, is local; and so is the version found there. A read and a write begin with it.
 -- Assumes nothing.
-use Prim.Native.Nat.{ℕ, _+_, _%_, _≤_, _<_}
-use native.Mathlib.Omega.{arith}
+use Prim.Native.Nat.{ℕ, _%_, _<_}
 use mathlib.Core.Path.{_≡_, _∙_, ap, subst₂}
 use mathlib.Core.List.{List}
 use mathlib.Core.Bool.{true}

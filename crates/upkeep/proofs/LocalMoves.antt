@@ -1,28 +1,26 @@
 -- The changes that calls are made of, made to two books that agree on what the change reads: they agree afterwards, and on what was sent.
 -- Assumes nothing.
 use Prim.Native.Nat.{ℕ, zero, suc, _+_, _*_, _-_, _≤_, _<_, max}
-use native.Mathlib.Nat.{le-refl, le-step, le-of-eq}
+use native.Mathlib.Nat.{le-refl, le-of-eq}
 use native.Mathlib.Omega.{arith}
 use mathlib.Core.Path.{_≡_, refl, sym, _∙_, ap, ap₂, subst, subst₂, subst₃}
 use mathlib.Core.Logic.{_⊎_, inl, inr, ⊎-elim}
 use mathlib.Core.List.{List}
-use mathlib.Core.Bool.{Bool, true, false}
-use lib.Dec.{eqb}
 use lib.ListN.{length, getD, set}
 use borrow.Author.Tests.{eqb-true, eqb-false}
-use Rattle.order.specs.Loops.{times, pick}
+use Rattle.order.specs.Loops.{times}
 use Rattle.order.specs.Vector.{Vec, mergeOne, mergedAt}
 use Rattle.order.specs.Order.{above}
 use Rattle.order.specs.Record.{bearingOf, rankOf}
 use Rattle.order.proofs.BoolLaws.{eq-or-ne}
 use Rattle.book.specs.Words.{put}
-use Rattle.book.specs.Layout.{clockAt, seenAt, linkOf, heldAt, takenAt, slotAt, storedAt, held, taken, slot}
+use Rattle.book.specs.Layout.{clockAt, seenAt, linkOf, heldAt, slotAt, storedAt, held, taken, slot}
 use Rattle.shelf.specs.Asks.{Free}
 use Rattle.shelf.specs.Show.{keptIn, closedUp, withHead}
 use Rattle.shelf.specs.Send.{sentTo, sent, stampFrom, movedOn, took}
 use Rattle.shelf.proofs.SendFrame.{sentUpTo, length-sent-up-to, held-up-to}
-use Rattle.upkeep.specs.Local.{Agree, In, LinkWord}
-use Rattle.upkeep.proofs.LocalBasics.{pick-alike, times-alike, agree-fewer, set-agrees, put-agrees, put-brings, part-agrees}
+use Rattle.upkeep.specs.Local.{Agree, In}
+use Rattle.upkeep.proofs.LocalBasics.{pick-alike, times-alike, set-agrees, put-agrees, put-brings, part-agrees}
 
 module _ (S : ℕ → Type 0) where
   -- the entrywise maximum, with vectors that agree

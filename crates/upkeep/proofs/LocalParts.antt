@@ -1,6 +1,6 @@
 -- Each part that a call names is fit in both of two books or in neither, where they agree on its words.
 -- Assumes nothing.
-use Prim.Native.Nat.{ℕ, _+_, _-_, _*_, _%_, _≤_, _<_}
+use Prim.Native.Nat.{ℕ, _+_, _-_, _≤_, _<_}
 use native.Mathlib.Nat.{le-refl}
 use native.Mathlib.Omega.{arith}
 use mathlib.Core.Path.{_≡_, refl, _∙_, ap, ap₂}
@@ -14,8 +14,8 @@ use Rattle.order.specs.Record.{bearingOf}
 use Rattle.order.proofs.BoolLaws.{and-left, and-right}
 use Rattle.order.proofs.VectorLaws.{covered-same}
 use Rattle.book.specs.declared.parts.Counts.{Counts}
-use Rattle.book.specs.Layout.{bookWords, end, homeAt, crewAt, clockAt, stableAt, seenAt, linkOf, heldAt, takenAt, slotAt, storedAt}
-use Rattle.book.specs.Layout.{countsOf, home, clock, stable, held, taken, slot, stored, recordOf}
+use Rattle.book.specs.Layout.{bookWords, end, homeAt, crewAt, clockAt, stableAt, seenAt, linkOf, heldAt, takenAt, storedAt}
+use Rattle.book.specs.Layout.{countsOf, home, clock, held, taken, slot, stored, recordOf}
 use Rattle.fit.specs.Fit.{countsFit, homeFit, homesFit, inRange, othersInRange, crewFit, clockFit, stableFit, seenFit, copyFit, messageFit}
 use Rattle.fit.specs.Fit.{headFit, messagesFit, linkFit, keptFit, storedFit}
 use Rattle.fit.specs.Named.{headsOutFit, placesFit, arrivalFit, showFit, tickParts, takeParts, refreshParts, homeParts, baseFit}

@@ -1,20 +1,20 @@
 -- A read is local.
 -- Assumes nothing.
-use Prim.Native.Nat.{ℕ, _+_, _%_, _≤_, _<_}
+use Prim.Native.Nat.{ℕ}
 use native.Mathlib.Omega.{arith}
 use mathlib.Core.Path.{_≡_, refl, sym, _∙_, ap, ap₂, subst}
 use mathlib.Core.Logic.{_⊎_, ⊎-elim}
 use mathlib.Core.List.{List}
-use mathlib.Core.Bool.{Bool, true, not}
+use mathlib.Core.Bool.{true, not}
 use lib.Dec.{leb, eqb}
 use lib.ListN.{length, getD}
-use borrow.Author.Tests.{leb-false, eqb-true, not-false}
+use borrow.Author.Tests.{leb-false, eqb-true}
 use Rattle.order.specs.Vector.{mergedAt}
 use Rattle.order.specs.Record.{vectorOf}
 use Rattle.order.proofs.VectorLaws.{length-merged, merged-other}
 use Rattle.book.specs.declared.parts.Counts.{Counts}
 use Rattle.book.specs.Layout.{crewAt, countsOf, home, crewVector}
-use Rattle.fit.specs.Named.{showFit, readParts, readFit}
+use Rattle.fit.specs.Named.{showFit, readFit}
 use Rattle.fit.proofs.NamedLaws.{read-based, read-named}
 use Rattle.shelf.proofs.FrameLaws.{off-sides}
 use Rattle.shelf.proofs.ShowFrame.{length-settled}

@@ -1,20 +1,19 @@
 -- A refresh is local.
 -- Assumes nothing.
-use Prim.Native.Nat.{ℕ, _+_, _≤_, _<_, min}
+use Prim.Native.Nat.{ℕ, _+_, _<_, min}
 use mathlib.Core.Path.{_≡_, refl, sym, _∙_, ap, ap₂, subst}
-use mathlib.Core.Logic.{_⊎_, inl, inr, ⊎-elim}
+use mathlib.Core.Logic.{_⊎_, ⊎-elim}
 use mathlib.Core.List.{List}
-use mathlib.Core.Bool.{Bool, true, not, _&&_}
+use mathlib.Core.Bool.{true, not, _&&_}
 use lib.Dec.{leb, ltb, eqb}
 use lib.ListN.{length, getD}
-use borrow.Author.Tests.{leb-false, not-false}
-use Rattle.order.specs.Loops.{times, every, pick}
-use Rattle.order.specs.Vector.{Vec}
+use borrow.Author.Tests.{leb-false}
+use Rattle.order.specs.Loops.{every, pick}
 use Rattle.order.proofs.BoolLaws.{and-right}
 use Rattle.book.specs.declared.parts.Counts.{Counts}
 use Rattle.book.specs.Layout.{countsOf, seenAt, seen}
 use Rattle.fit.specs.Fit.{seenFit}
-use Rattle.fit.specs.Named.{baseFit, showFit, refreshParts, refreshFit}
+use Rattle.fit.specs.Named.{showFit, refreshParts, refreshFit}
 use Rattle.fit.proofs.NamedLaws.{base-open, refresh-based, refresh-named}
 use Rattle.shelf.specs.Show.{settled}
 use Rattle.shelf.specs.Send.{lowest, lowestSeen}

@@ -11,7 +11,7 @@ use mathlib.Core.Bool.{true}
 use lib.Dec.{eqb}
 use lib.ListN.{getD}
 use borrow.Author.Tests.{eqb-false, ne-eqb}
-use Rattle.order.specs.Loops.{times, pick}
+use Rattle.order.specs.Loops.{times}
 use Rattle.order.specs.Vector.{Vec, mergedAt}
 use Rattle.order.proofs.BoolLaws.{and-left, and-right, or-next, eq-or-ne}
 use Rattle.order.proofs.LoopLaws.{times-keeps, every-at}

@@ -1,18 +1,18 @@
 -- A take is local.
 -- Assumes nothing.
-use Prim.Native.Nat.{ℕ, _+_, _*_, _-_, _≤_, _<_}
+use Prim.Native.Nat.{ℕ, _-_}
 use native.Mathlib.Omega.{arith}
 use mathlib.Core.Path.{_≡_, refl, sym, _∙_, ap, ap₂}
-use mathlib.Core.Logic.{_⊎_, inl, inr, ⊎-elim}
+use mathlib.Core.Logic.{_⊎_, ⊎-elim}
 use mathlib.Core.List.{List}
 use mathlib.Core.Bool.{Bool, true, false, not, _||_}
 use lib.Dec.{leb, eqb}
 use lib.ListN.{length, getD}
-use borrow.Author.Tests.{leb-false, eqb-false, not-false, lt-leb, ne-eqb}
+use borrow.Author.Tests.{leb-false, eqb-false, not-false, ne-eqb}
 use Rattle.order.proofs.BoolLaws.{or-next, and-right}
 use Rattle.book.specs.declared.parts.Counts.{Counts}
-use Rattle.book.specs.Layout.{end, countsOf, linkOf, seen, held, taken}
-use Rattle.fit.specs.Fit.{headFit, linkFit}
+use Rattle.book.specs.Layout.{end, countsOf, linkOf, seen}
+use Rattle.fit.specs.Fit.{headFit}
 use Rattle.fit.specs.Named.{baseFit, takeParts, takeFit}
 use Rattle.fit.proofs.NamedLaws.{take-based, take-named}
 use Rattle.shelf.proofs.SendFrame.{length-took, took-off}
@@ -22,7 +22,7 @@ use Rattle.register.specs.Table.{takeNumber}
 use Rattle.register.specs.Calls.{takeBook}
 use Rattle.register.proofs.Numbers.{TakeDone, take-done, or-none}
 use Rattle.upkeep.specs.Requests.{call, Reply, numberAt, replyTo, changedBy}
-use Rattle.upkeep.specs.Local.{Agree, In, BaseWord, LinkWord, of-head, of-messages, TakeWord, of-seen, of-sender, Named, based, by-take}
+use Rattle.upkeep.specs.Local.{Agree, BaseWord, LinkWord, of-head, of-messages, TakeWord, of-seen, of-sender, Named, based, by-take}
 use Rattle.upkeep.specs.Local.{TookWord, the-seen, the-head, the-slots, Changed, taking, Alike}
 use Rattle.upkeep.proofs.LocalBasics.{or-alike, and-alike, first-alike, agree-fewer}
 use Rattle.upkeep.proofs.LocalParts.{link-headed, counts-agree, base-agrees, held-agrees, taken-agrees, take-parts-agree}

@@ -1,20 +1,18 @@
 -- A tick is local.
 -- Assumes nothing.
-use Prim.Native.Nat.{ℕ, _+_, _≤_, _<_}
-use native.Mathlib.Nat.{le-refl, le-of-eq}
+use Prim.Native.Nat.{ℕ, _+_}
 use native.Mathlib.Omega.{arith}
-use mathlib.Core.Path.{_≡_, refl, sym, _∙_, ap, subst₂}
+use mathlib.Core.Path.{_≡_, refl, _∙_, ap, subst₂}
 use mathlib.Core.Logic.{_⊎_, inl, inr, ⊎-elim}
 use mathlib.Core.List.{List}
-use mathlib.Core.Bool.{Bool, true, not}
+use mathlib.Core.Bool.{not}
 use lib.Dec.{leb}
 use lib.ListN.{length, getD}
 use borrow.Author.Tests.{leb-false, not-false}
 use Rattle.book.specs.declared.parts.Counts.{Counts}
 use Rattle.book.specs.Layout.{end, countsOf, clock}
 use Rattle.fit.specs.Named.{tickParts, tickFit}
-use Rattle.fit.proofs.NamedLaws.{Based, base-open, tick-based}
-use Rattle.shelf.specs.Asks.{Free}
+use Rattle.fit.proofs.NamedLaws.{base-open, tick-based}
 use Rattle.shelf.specs.Send.{roomy, sent, beat}
 use Rattle.shelf.proofs.SendFrame.{length-sent, sent-off}
 use Rattle.paper.specs.Calls.{tick}
@@ -29,7 +27,7 @@ use Rattle.upkeep.specs.Local.{SentWord, the-clock, the-count, the-slot,
 use Rattle.upkeep.proofs.LocalBasics.{or-alike, and-alike, first-alike, agree-fewer}
 use Rattle.upkeep.proofs.LocalParts.{counts-agree, base-agrees, clock-agrees, count-held, tick-parts-agree, room-agrees}
 use Rattle.upkeep.proofs.LocalMoves.{SlotsOut, sent-agrees}
-use Rattle.upkeep.proofs.LocalAlike.{alike-by, stays-by, size-by}
+use Rattle.upkeep.proofs.LocalAlike.{alike-by}
 
 -- what sending writes is named, but for the free slots
 pub sent-named :

@@ -1,7 +1,7 @@
 -- A write is local: it begins as a read, and ends as a tick of the home shelf.
 -- Assumes nothing.
-use Prim.Native.Nat.{ℕ, suc, _+_, _%_, _≤_, _<_}
-use native.Mathlib.Nat.{le-refl, le-of-eq}
+use Prim.Native.Nat.{ℕ, suc, _+_, _%_, _<_}
+use native.Mathlib.Nat.{le-of-eq}
 use native.Mathlib.Omega.{arith}
 use mathlib.Core.Path.{_≡_, refl, sym, _∙_, ap, ap₂, subst}
 use mathlib.Core.Logic.{_⊎_, inl, inr, ⊎-elim}
@@ -11,12 +11,11 @@ use lib.Dec.{leb, ltb, eqb}
 use lib.ListN.{length, getD, length-set}
 use lib.Seq.{getD-set-other}
 use borrow.Author.Tests.{leb-false, eqb-true, not-false}
-use Rattle.order.specs.Loops.{pick}
 use Rattle.order.specs.Order.{above}
-use Rattle.order.specs.Record.{bearingOf, rankOf}
+use Rattle.order.specs.Record.{rankOf}
 use Rattle.order.proofs.BoolLaws.{and-left}
 use Rattle.book.specs.declared.parts.Counts.{Counts}
-use Rattle.book.specs.Layout.{end, copyKind, crewAt, storedAt, slotAt, linkOf, countsOf, home, crewVector, clock, held, stored}
+use Rattle.book.specs.Layout.{end, copyKind, crewAt, storedAt, slotAt, linkOf, countsOf, home, crewVector, clock}
 use Rattle.fit.specs.Named.{baseFit, showFit, readParts, tickParts, writeParts, writeFit}
 use Rattle.fit.proofs.NamedLaws.{base-open, write-based, write-named}
 use Rattle.shelf.specs.Show.{keptIn}
@@ -34,7 +33,7 @@ use Rattle.register.proofs.FitReady.{free, out-stays}
 use Rattle.register.proofs.HomeLaws.{cut-same}
 use Rattle.register.proofs.MadeLaws.{length-made, made-bearing}
 use Rattle.upkeep.specs.Requests.{call, Reply, numberAt, replyTo, changedBy}
-use Rattle.upkeep.specs.Local.{Agree, In, BaseWord, of-crew, of-stored, of-home, TickWord, ReadWord, WriteWord, as-read, as-tick, Named, based, by-write}
+use Rattle.upkeep.specs.Local.{Agree, In, BaseWord, of-crew, of-stored, of-home, TickWord, ReadWord, as-read, as-tick, Named, based, by-write}
 use Rattle.upkeep.specs.Local.{the-clock, the-count, the-slot, WroteWord, the-own, the-stored, the-shelf, the-copy, Changed, writing, Alike}
 use Rattle.upkeep.proofs.LocalBasics.{or-alike, and-alike, first-alike, pick-alike, agree-fewer, set-agrees, part-agrees}
 use Rattle.upkeep.proofs.LocalParts.{counts-agree, base-agrees, clock-agrees, count-held, tick-parts-agree, room-agrees}
