@@ -10,4 +10,16 @@ pub mod PaperLaws
 pub mod NeverBadBook
 pub mod NeverBadAnswer
 pub mod Unique
+pub mod LocalBasics
+pub mod LocalParts
+pub mod LocalMoves
+pub mod LocalAlike
 pub mod LocalTick
+pub mod LocalTake
+pub mod LocalSweep
+pub mod LocalShow
+pub mod LocalRefresh
+pub mod LocalHome
+pub mod LocalRead
+pub mod LocalWrite
+pub mod LocalCalls
