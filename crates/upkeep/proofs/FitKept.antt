@@ -26,11 +26,11 @@ use Rattle.register.proofs.FitParts.{Whole, link-open}
 use Rattle.register.proofs.FitMessage.{beat-message, kept-range}
 use Rattle.register.proofs.FitReady.{roomy-free, shelf-in}
 use Rattle.register.proofs.Numbers.{TickDone, TakeDone, RefreshDone, ReadDone, WriteDone, tick-done, take-done, refresh-done, read-done}
-use Rattle.upkeep.proofs.FitFrame.{CrewOk, Keeps, keeps-then, keeps-whole, keeps-fit}
+use Rattle.upkeep.proofs.FitFrame.{CrewOk, Keeps, keeps-whole, keeps-fit}
 use Rattle.upkeep.proofs.FitSent.{sent-keeps}
 use Rattle.upkeep.proofs.FitTook.{took-keeps}
-use Rattle.upkeep.proofs.FitSettled.{Arrivals, settled-keeps}
-use Rattle.upkeep.proofs.FitStored.{crew-merged-keeps}
+use Rattle.upkeep.proofs.FitSettled.{Arrivals, Settles, settles-then, settled-settles}
+use Rattle.upkeep.proofs.FitStored.{crew-merged-off, crew-merged-keeps}
 
 -- ---- a call that is done has the length, the counts and the homes, and the parts that it names
 
@@ -95,12 +95,12 @@ pub refresh-arrivals : (l : List ℕ) (d s : ℕ) → RefreshDone l d s → Arri
 unfolding refreshParts
 refresh-arrivals l d s t = show-arrivals (countsOf l) l d s (and-right (every (countsOf l .shelves) (seenFit (countsOf l) l d)) _ (refresh-asked l d s t .1))
 
-pub refresh-keeps : (l : List ℕ) (d s : ℕ) → refreshNumber l d s ≡ 0 → Keeps (countsOf l) l (refreshBook l d s)
+pub refresh-settles : (l : List ℕ) (d s : ℕ) → refreshNumber l d s ≡ 0 → Settles (countsOf l) l (refreshBook l d s) d s
 unfolding refreshBook
-refresh-keeps l d s h =
+refresh-settles l d s h =
     let t = refresh-done l d s h in
     let B = refresh-asked l d s t .0 in
-    settled-keeps (countsOf l) l (B .within) (B .full) d s _ (t .depot) (t .shelf) (refresh-arrivals l d s t)
+    settled-settles (countsOf l) l (B .within) (B .full) d s _ (t .depot) (t .shelf) (refresh-arrivals l d s t)
     (λ x k f. lowest-seen-range (countsOf l .depots) (countsOf l .shelves) d l x)
 
 -- ---- a crew at its home shelf
@@ -130,22 +130,27 @@ home-open l c k B hc h =
       and-left (storedFit (countsOf l) l (home l c) k) _ g,
     )
 
-pub settled-home-keeps : (l : List ℕ) (c k : ℕ) → HomeOk l c k → Keeps (countsOf l) l (settledHome l c k)
+pub home-settles : (l : List ℕ) (c k : ℕ) → HomeOk l c k → Settles (countsOf l) l (settledHome l c k) (home l c) (shelfOf l k)
 unfolding settledHome
-settled-home-keeps l c k H =
-    settled-keeps (countsOf l) l (H .within) (H .full) (home l c) (shelfOf l k) (crewVector l c) (H .depot) (shelf-in (countsOf l) (H .within) k) (H .arrivals)
+home-settles l c k H =
+    settled-settles (countsOf l) l (H .within) (H .full) (home l c) (shelfOf l k) (crewVector l c) (H .depot) (shelf-in (countsOf l) (H .within) k) (H .arrivals)
     λ x z f. H .crew x z
 
-pub read-keeps : (l : List ℕ) (c k : ℕ) → readNumber l c k ≡ 0 → Keeps (countsOf l) l (readBook l c k)
+pub read-settles : (l : List ℕ) (c k : ℕ) → readNumber l c k ≡ 0 → Settles (countsOf l) l (readBook l c k) (home l c) (shelfOf l k)
 unfolding readBook readRecord
-read-keeps l c k h =
+read-settles l c k h =
     let t = read-done l c k h in
     let A = read-asked l c k t in
     let H = home-open l c k (A .0) (t .crew) (A .1) in
-    let K = settled-home-keeps l c k (H .0) in
-    keeps-then (countsOf l) l (settledHome l c k) _ K
-    (crew-merged-keeps (countsOf l) (settledHome l c k) (A .0 .within) (K .size ∙ A .0 .full) c _ (t .crew)
-    (kept-range (countsOf l) k (stored (settledHome l c k) (home l c) k) (K .stores (home l c) k (H .0 .depot) (t .bearing) (H .1))))
+    let S = home-settles l c k (H .0) in
+    let a = A .0 .within .depots in
+    let b = A .0 .within .crews in
+    let e = t .crew in
+    settles-then (countsOf l) l (settledHome l c k) _ (home l c) (shelfOf l k) (shelf-in (countsOf l) (A .0 .within) k) (H .0 .depot) (H .0 .arrivals) S
+    (crew-merged-keeps (countsOf l) (settledHome l c k) (A .0 .within) (S .keeps .size ∙ A .0 .full) c _ (t .crew)
+    (kept-range (countsOf l) k (stored (settledHome l c k) (home l c) k) (S .keeps .stores (home l c) k (H .0 .depot) (t .bearing) (H .1))))
+    (λ from z f j x y. crew-merged-off (countsOf l) (settledHome l c k) c _ j (omega arith))
+    (λ from z f j x y. crew-merged-off (countsOf l) (settledHome l c k) c _ j (omega arith))
 
 -- ---- so a fit book stays fit
 
@@ -156,10 +161,10 @@ pub take-fit : (l : List ℕ) (d s from : ℕ) → fit l ≡ true → takeNumber
 take-fit l d s from F h = keeps-fit l _ (take-keeps l d s from h) F
 
 pub refresh-fit : (l : List ℕ) (d s : ℕ) → fit l ≡ true → refreshNumber l d s ≡ 0 → fit (refreshBook l d s) ≡ true
-refresh-fit l d s F h = keeps-fit l _ (refresh-keeps l d s h) F
+refresh-fit l d s F h = keeps-fit l _ (refresh-settles l d s h .keeps) F
 
 pub read-fit : (l : List ℕ) (c k : ℕ) → fit l ≡ true → readNumber l c k ≡ 0 → fit (readBook l c k) ≡ true
-read-fit l c k F h = keeps-fit l _ (read-keeps l c k h) F
+read-fit l c k F h = keeps-fit l _ (read-settles l c k h .keeps) F
 
 pub whole-home : (l : List ℕ) (c k : ℕ) → Whole (countsOf l) l → c < countsOf l .crews → HomeOk l c k
 whole-home l c k W hc =
@@ -172,4 +177,4 @@ whole-home l c k W hc =
     }
 
 pub settled-home-whole : (l : List ℕ) (c k : ℕ) → Whole (countsOf l) l → c < countsOf l .crews → Whole (countsOf l) (settledHome l c k)
-settled-home-whole l c k W hc = keeps-whole (countsOf l) l _ (settled-home-keeps l c k (whole-home l c k W hc)) W
+settled-home-whole l c k W hc = keeps-whole (countsOf l) l _ (home-settles l c k (whole-home l c k W hc) .keeps) W

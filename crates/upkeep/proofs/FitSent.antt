@@ -63,16 +63,16 @@ module _ (n : Counts) (l : List ℕ) (W : Within n) (full : length l ≡ 16384) 
             };
       }
 
-  pub sent-link-stays :
-      (r from to : ℕ) → r < n .shelves → from < n .depots → to < n .depots → ((x : ℕ) → x < n .depots → (x ≡ d → ⊥) → linkOf r from to ≡ linkOf s d x → ⊥) →
-      LinkKept n l (sent (n .depots) d s stamp m l) r from (linkOf r from to)
+  other :
+      (r from to : ℕ) → r < n .shelves → from < n .depots → to < n .depots → ((x : ℕ) → x < n .depots → linkOf r from to ≡ linkOf s d x → ⊥) →
+      LinkKept n l after r from (linkOf r from to)
   unfolding after
-  sent-link-stays r from to hr hf ht g =
+  other r from to hr hf ht g =
       let a = W .depots in
       let b = W .shelves in
       link-stays n l after r from (linkOf r from to) (length-sent (n .depots) d s stamp m l)
-      (λ j x y. stays j (omega arith) (λ z k e. let u = g z k e in let v = F .room z k e in (omega arith, omega arith)))
-      (λ j x y. stays j (omega arith) (λ z k e. let u = g z k e in let v = F .room z k e in (omega arith, omega arith)))
+      (λ j x y. stays j (omega arith) (λ z k e. let u = g z k in let v = F .room z k e in (omega arith, omega arith)))
+      (λ j x y. stays j (omega arith) (λ z k e. let u = g z k in let v = F .room z k e in (omega arith, omega arith)))
 
   link : (r from to : ℕ) → r < n .shelves → from < n .depots → to < n .depots → (from ≡ to → ⊥) → LinkKept n l after r from (linkOf r from to)
   unfolding after
@@ -84,9 +84,9 @@ module _ (n : Counts) (l : List ℕ) (W : Within n) (full : length l ≡ 16384) 
       (λ (q : from ≡ d).
       subst (λ (x : ℕ). LinkKept n l after x from (linkOf x from to)) (sym p)
       (subst (λ (x : ℕ). LinkKept n l after s x (linkOf s x to)) (sym q) (out to ht (λ e. f (q ∙ sym e)))))
-      (λ (q : from ≡ d → ⊥). sent-link-stays r from to hr hf ht (λ x k g e. omega arith))
+      (λ (q : from ≡ d → ⊥). other r from to hr hf ht (λ x k e. omega arith))
       (eq-or-ne from d))
-      (λ (p : r ≡ s → ⊥). sent-link-stays r from to hr hf ht (λ x k g e. omega arith))
+      (λ (p : r ≡ s → ⊥). other r from to hr hf ht (λ x k e. omega arith))
       (eq-or-ne r s)
 
   pub sent-keeps : Keeps n l (sent (n .depots) d s stamp m l)

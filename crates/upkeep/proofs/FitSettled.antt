@@ -16,22 +16,42 @@ use Rattle.order.proofs.BoolLaws.{eq-or-ne}
 use Rattle.order.proofs.LoopLaws.{times-keeps}
 use Rattle.order.proofs.VectorLaws.{merged-own, merged-entry}
 use Rattle.book.specs.declared.parts.Counts.{Counts}
-use Rattle.book.specs.Layout.{end, stable, stableAt, storedAt, linkOf, stored, recordOf}
+use Rattle.book.specs.Layout.{end, stable, stableAt, slotAt, heldAt, storedAt, linkOf, stored, recordOf}
 use Rattle.fit.specs.Fit.{keptFit, Within}
 use Rattle.shelf.specs.Show.{settled}
 use Rattle.shelf.proofs.FrameLaws.{Off, pick-cases, part-off}
 use Rattle.shelf.proofs.AllLaws.{AllOf, all-map, all-staying, records-shown-all}
 use Rattle.shelf.proofs.ShowLaws.{takenSlots}
 use Rattle.shelf.proofs.ShowFrame.{Ready, OffLinks, length-settled, settled-off, settled-low, shown-off, raised-ready}
-use Rattle.shelf.proofs.ShownLaws.{raisedBook, settleTurn, settled-copies, settled-waiting, settled-room, settled-first, settled-store}
+use Rattle.shelf.proofs.ShownLaws.{link-same, raisedBook, settleTurn, settled-copies, settled-waiting, settled-room, settled-first, settled-store}
 use Rattle.register.proofs.FitParts.{LinkOk, IsCopy, IsMessage}
 use Rattle.register.proofs.FitMessage.{copy-open, version-kept}
 use Rattle.register.proofs.FitReady.{link-sound}
-use Rattle.upkeep.proofs.FitFrame.{StableOk, HeadOk, LinkKept, Keeps, crews-same, clock-same, stable-same, stamp-same, link-stays, stored-same}
+use Rattle.upkeep.proofs.FitFrame.{StableOk, HeadOk, LinkKept, Keeps, Same, crews-same, clock-same, stable-same, stamp-same, link-stays, stored-same, keeps-then}
 
 -- every link into shelf s of depot d is fit
 abbrev pub Arrivals : Counts → List ℕ → ℕ → ℕ → Type 0
 Arrivals n l d s = (from : ℕ) → from < n .depots → (from ≡ d → ⊥) → LinkOk n l s from (linkOf s from d)
+
+-- what raise and show at shelf s of depot d keeps, and that of the copies taken on the links into the shelf none is new
+pub record Settles (n : Counts) (l m : List ℕ) (d s : ℕ) : Type 1 where
+  pub keeps : Keeps n l m
+  pub fewer :
+      (P : List ℕ → Type 0) (from : ℕ) → from < n .depots → (from ≡ d → ⊥) → AllOf P (takenSlots l (linkOf s from d)) → AllOf P (takenSlots m (linkOf s from d))
+
+-- so does raise and show, and then a change that leaves the words of these links
+pub settles-then :
+    (n : Counts) (l m v : List ℕ) (d s : ℕ) → s < n .shelves → d < n .depots → Arrivals n l d s → Settles n l m d s → Keeps n m v →
+    ((from : ℕ) → from < n .depots → (from ≡ d → ⊥) → Same m v (slotAt (linkOf s from d) 0) (slotAt (linkOf s from d) 16)) →
+    ((from : ℕ) → from < n .depots → (from ≡ d → ⊥) → Same m v (heldAt (linkOf s from d)) (heldAt (linkOf s from d) + 2)) → Settles n l v d s
+settles-then n l m v d s hs hd A S K slotted heads =
+    record {
+      keeps = keeps-then n l m v (S .keeps) K;
+      fewer = λ P from k f h.
+          let o = S .keeps .links s from d hs k hd f .whole (A from k f) in
+          subst (AllOf P) (sym (link-same m v (linkOf s from d) (K .size) (o .room) (o .first) (slotted from k f) (λ j x y. heads from k f j x (omega arith)) .copies))
+          (S .fewer P from k f h);
+    }
 
 module _ (n : Counts) (l : List ℕ) (W : Within n) (full : length l ≡ 16384) (d s : ℕ) (offered : Vec) (hd : d < n .depots) (hs : s < n .shelves)
     (A : Arrivals n l d s) (range : (x : ℕ) → x < n .depots → (x ≡ d → ⊥) → offered x ≤ end) where
@@ -165,9 +185,9 @@ module _ (n : Counts) (l : List ℕ) (W : Within n) (full : length l ≡ 16384) 
         λ j x y. stays j (omega arith) (λ from z f. (omega arith, omega arith)) (omega arith)))
         (eq-or-ne e d)
 
-  pub settled-keeps : Keeps n l (settled (n .depots) d s offered l)
+  keeps : Keeps n l after
   unfolding after
-  settled-keeps =
+  keeps =
       let a = W .depots in
       let b = W .shelves in
       record {
@@ -181,8 +201,10 @@ module _ (n : Counts) (l : List ℕ) (W : Within n) (full : length l ≡ 16384) 
         stores = λ e k he hk. store k hk e he;
       }
 
-  -- no copy is taken but those that were
-  pub settled-fewer :
-      (P : List ℕ → Type 0) (from : ℕ) → from < n .depots → (from ≡ d → ⊥) → AllOf P (takenSlots l (linkOf s from d)) →
-      AllOf P (takenSlots (settled (n .depots) d s offered l) (linkOf s from d))
-  settled-fewer P from k f h = subst (AllOf P) (sym (settled-copies (n .depots) d s offered l full R from k f)) (all-staying P _ _ h)
+  pub settled-settles : Settles n l (settled (n .depots) d s offered l) d s
+  unfolding after
+  settled-settles =
+      record {
+        keeps = keeps;
+        fewer = λ P from k f h. subst (AllOf P) (sym (settled-copies (n .depots) d s offered l full R from k f)) (all-staying P _ _ h);
+      }

@@ -24,6 +24,10 @@ use Rattle.register.proofs.FitParts.{Whole}
 use Rattle.register.proofs.FitMessage.{VersionOk, version-kept}
 use Rattle.upkeep.proofs.FitFrame.{CrewOk, Keeps, Same, crews-same, stored-same, keeps-off, keeps-whole}
 
+pub crew-merged-off :
+    (n : Counts) (l : List ℕ) (c : ℕ) (u : Vec) (j : ℕ) → Off (crewAt c) (n .depots) j → getD (mergedAt (n .depots) (n .depots) u (crewAt c) l) j 0 ≡ getD l j 0
+crew-merged-off n l c u j off = merged-other (n .depots) (n .depots) u (crewAt c) l j (off-sides (crewAt c) (n .depots) j off)
+
 module _ (n : Counts) (l : List ℕ) (W : Within n) (full : length l ≡ 16384) where
   pub kept-in-keeps : (d : ℕ) (r : List ℕ) → d < n .depots → length r ≡ 9 → VersionOk n r → bearingOf r < n .bearings → Keeps n l (keptIn (n .depots) d r l)
   kept-in-keeps d r hd nine ok hb =
@@ -84,7 +88,7 @@ module _ (n : Counts) (l : List ℕ) (W : Within n) (full : length l ≡ 16384) 
       let a = W .depots in
       let b = W .crews in
       crew-keeps _ c hc (length-merged (n .depots) (n .depots) u (crewAt c) l)
-      (λ j off. merged-other (n .depots) (n .depots) u (crewAt c) l j (off-sides (crewAt c) (n .depots) j off))
+      (crew-merged-off n l c u)
       λ h y z.
       subst (λ (v : ℕ). v ≤ end) (sym (merged-entry (n .depots) (n .depots) u (crewAt c) l (rw full (omega arith)) y z (omega arith)))
       (max-le (h y z) (hu y z))

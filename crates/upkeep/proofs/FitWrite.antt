@@ -1,20 +1,24 @@
 -- A write that is done keeps every part of the book, and so leaves a fit book fit.
 -- Assumes nothing.
-use Prim.Native.Nat.{ℕ, suc, _%_, _≤_, _<_}
+use Prim.Native.Nat.{ℕ, suc, _+_, _%_, _≤_, _<_}
+use native.Mathlib.Nat.{le-of-eq}
 use native.Mathlib.Omega.{arith}
 use mathlib.Core.Path.{_≡_, refl, sym, _∙_, ap, subst}
 use mathlib.Core.List.{List, _∷_}
 use mathlib.Core.Bool.{true}
 use lib.Dec.{eqb}
+use lib.ListN.{getD}
+use lib.Seq.{getD-set-other}
 use borrow.Author.Tests.{eq-eqb}
 use Rattle.order.specs.Record.{bearingOf, originOf, vectorOf}
 use Rattle.order.proofs.BoolLaws.{and-left, pick-true}
-use Rattle.book.specs.Layout.{end, copyKind, countsOf, home, crewVector, clock}
+use Rattle.book.specs.Layout.{end, copyKind, crewAt, countsOf, home, crewVector, clock}
 use Rattle.fit.specs.Fit.{fit}
 use Rattle.fit.specs.Named.{readParts, writeParts}
 use Rattle.fit.proofs.NamedLaws.{Based}
 use Rattle.shelf.specs.Show.{keptIn}
-use Rattle.shelf.proofs.FrameLaws.{pick-cases}
+use Rattle.shelf.proofs.FrameLaws.{pick-cases, kept-in-low}
+use Rattle.shelf.proofs.SendFrame.{OffOut, sent-off}
 use Rattle.register.specs.Table.{shelfOf, writeNumber}
 use Rattle.register.specs.Calls.{settledHome, newStamp, madeVector, madeRecord, writtenCrew, writeBook}
 use Rattle.register.proofs.FitParts.{IsMessage, Whole}
@@ -24,8 +28,9 @@ use Rattle.register.proofs.FitReady.{shelf-in, free}
 use Rattle.register.proofs.MadeLaws.{length-made, made-entry, made-record-of, made-bearing, made-origin}
 use Rattle.upkeep.proofs.FitFrame.{Keeps, keeps-then, keeps-fit}
 use Rattle.upkeep.proofs.FitSent.{sent-keeps}
+use Rattle.upkeep.proofs.FitSettled.{Settles, settles-then}
 use Rattle.upkeep.proofs.FitStored.{crew-set-keeps, kept-in-keeps}
-use Rattle.upkeep.proofs.FitKept.{HomeOk, home-open, whole-home, settled-home-keeps, write-asked}
+use Rattle.upkeep.proofs.FitKept.{HomeOk, home-open, whole-home, home-settles, write-asked}
 
 -- ---- the record
 
@@ -85,14 +90,14 @@ module _ (l : List ℕ) (c k value : ℕ) (t : WriteDone l c k) where
   unfolding writeParts
   H = home-open l c k B (t .crew) (and-left (readParts (countsOf l) l c k) _ (write-asked l c k t .1)) .0
 
-  K : Keeps (countsOf l) l (settledHome l c k)
-  K = settled-home-keeps l c k H
+  S : Settles (countsOf l) l (settledHome l c k) (home l c) (shelfOf l k)
+  S = home-settles l c k H
 
   crewed : Keeps (countsOf l) (settledHome l c k) (writtenCrew l c k)
   crewed =
       let a = t .clocked in
       unfold writtenCrew in
-      crew-set-keeps (countsOf l) (settledHome l c k) (B .within) (K .size ∙ B .full) c (home l c) (newStamp l c k) (t .crew) (H .depot) (omega arith)
+      crew-set-keeps (countsOf l) (settledHome l c k) (B .within) (S .keeps .size ∙ B .full) c (home l c) (newStamp l c k) (t .crew) (H .depot) (omega arith)
 
   kept : List ℕ
   kept = keptIn (countsOf l .depots) (home l c) (madeRecord l c k value) (writtenCrew l c k)
@@ -100,7 +105,7 @@ module _ (l : List ℕ) (c k value : ℕ) (t : WriteDone l c k) where
   storing : Keeps (countsOf l) (writtenCrew l c k) kept
   unfolding kept
   storing =
-      kept-in-keeps (countsOf l) (writtenCrew l c k) (B .within) (crewed .size ∙ K .size ∙ B .full) (home l c) (madeRecord l c k value)
+      kept-in-keeps (countsOf l) (writtenCrew l c k) (B .within) (crewed .size ∙ S .keeps .size ∙ B .full) (home l c) (madeRecord l c k value)
       (H .depot) (length-made l c k value) (made-ok l c k value H (t .clocked))
       (subst (λ (x : ℕ). x < countsOf l .bearings) (sym (made-bearing l c k value)) (t .bearing))
 
@@ -108,15 +113,40 @@ module _ (l : List ℕ) (c k value : ℕ) (t : WriteDone l c k) where
   unfolding kept writeBook
   sending =
       let a = t .clocked in
-      sent-keeps (countsOf l) kept (B .within) (storing .size ∙ crewed .size ∙ K .size ∙ B .full) (home l c) (shelfOf l k) (newStamp l c k)
+      sent-keeps (countsOf l) kept (B .within) (storing .size ∙ crewed .size ∙ S .keeps .size ∙ B .full) (home l c) (shelfOf l k) (newStamp l c k)
       (copyKind ∷ madeRecord l c k value) (H .depot) (shelf-in (countsOf l) (B .within) k) (omega arith) (ap suc (length-made l c k value))
       (made-message l c k value (t .bearing) (made-ok l c k value H (t .clocked))) (free l c k value t)
 
-  written : Keeps (countsOf l) l (writeBook l c k value)
-  written = keeps-then (countsOf l) l _ _ K (keeps-then (countsOf l) _ _ _ crewed (keeps-then (countsOf l) _ _ _ storing sending))
+  -- the links into the shelf are left as raise and show left them
+  stays : (j : ℕ) → 100 ≤ j → j < 10596 → OffOut (countsOf l .depots) (home l c) (shelfOf l k) kept j → getD (writeBook l c k value) j 0 ≡ getD (settledHome l c k) j 0
+  unfolding kept writeBook writtenCrew
+  stays j low high out =
+      let a = B .within .depots in
+      let b = B .within .crews in
+      let e = B .within .shelves in
+      let g = t .crew in
+      let x = H .depot in
+      let y = shelf-in (countsOf l) (B .within) k in
+      sent-off (countsOf l .depots) (home l c) (shelfOf l k) (newStamp l c k) (copyKind ∷ madeRecord l c k value) kept (le-of-eq (ap suc (length-made l c k value)))
+      (free l c k value t) j (omega arith) out
+      ∙ kept-in-low (countsOf l .depots) (home l c) (madeRecord l c k value) (writtenCrew l c k) j high
+      ∙ getD-set-other (settledHome l c k) (crewAt c + home l c) j (newStamp l c k) 0 (omega arith)
 
-pub write-keeps : (l : List ℕ) (c k value : ℕ) → writeNumber l c k value ≡ 0 → Keeps (countsOf l) l (writeBook l c k value)
-write-keeps l c k value h = written l c k value (write-done l c k value h)
+  written : Settles (countsOf l) l (writeBook l c k value) (home l c) (shelfOf l k)
+  unfolding kept
+  written =
+      let a = B .within .depots in
+      let e = B .within .shelves in
+      let x = H .depot in
+      let y = shelf-in (countsOf l) (B .within) k in
+      settles-then (countsOf l) l (settledHome l c k) (writeBook l c k value) (home l c) (shelfOf l k) (shelf-in (countsOf l) (B .within) k) (H .depot) (H .arrivals) S
+      (keeps-then (countsOf l) _ _ _ crewed (keeps-then (countsOf l) _ _ _ storing sending))
+      (λ from z f j u v. stays j (omega arith) (omega arith) (λ to p q. let r = free l c k value t .room to p q in (omega arith, omega arith)))
+      (λ from z f j u v. stays j (omega arith) (omega arith) (λ to p q. let r = free l c k value t .room to p q in (omega arith, omega arith)))
+
+pub write-settles :
+    (l : List ℕ) (c k value : ℕ) → writeNumber l c k value ≡ 0 → Settles (countsOf l) l (writeBook l c k value) (home l c) (shelfOf l k)
+write-settles l c k value h = written l c k value (write-done l c k value h)
 
 pub write-fit : (l : List ℕ) (c k value : ℕ) → fit l ≡ true → writeNumber l c k value ≡ 0 → fit (writeBook l c k value) ≡ true
-write-fit l c k value F h = keeps-fit l _ (write-keeps l c k value h) F
+write-fit l c k value F h = keeps-fit l _ (write-settles l c k value h .keeps) F

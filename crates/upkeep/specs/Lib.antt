@@ -1,2 +1,3 @@
 pub mod Requests
 pub mod Paper
+pub mod Own
