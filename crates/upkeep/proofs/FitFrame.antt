@@ -1,7 +1,7 @@
 -- What a change of the book keeps: each part by itself, fit before, is fit after. A part whose words stay is as fit as it was; changes one after the
 -- other keep what each keeps; and so a fit book stays fit.
 -- Assumes nothing.
-use Prim.Native.Nat.{ℕ, _+_, _*_, _≤_, _<_}
+use Prim.Native.Nat.{ℕ, _+_, _≤_, _<_}
 use native.Mathlib.Omega.{arith}
 use mathlib.Core.Path.{_≡_, refl, sym, _∙_, ap, subst}
 use mathlib.Core.List.{List}
@@ -12,7 +12,6 @@ use Rattle.book.specs.Layout.{end, countsOf, crewVector, clock, stable, seen, h
 use Rattle.book.specs.Layout.{crewAt, clockAt, stableAt, seenAt, slotAt, heldAt, takenAt, linkOf}
 use Rattle.fit.specs.Fit.{keptFit, Within, fit}
 use Rattle.shelf.proofs.AllLaws.{AllOf}
-use Rattle.shelf.proofs.FrameLaws.{part-off}
 use Rattle.shelf.proofs.ShownLaws.{link-same}
 use Rattle.register.proofs.FitParts.{LinkOk, IsCopy, IsMessage, Whole, whole-open, whole-close}
 

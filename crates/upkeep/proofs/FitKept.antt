@@ -133,7 +133,8 @@ home-open l c k B hc h =
 pub home-settles : (l : List ℕ) (c k : ℕ) → HomeOk l c k → Settles (countsOf l) l (settledHome l c k) (home l c) (shelfOf l k)
 unfolding settledHome
 home-settles l c k H =
-    settled-settles (countsOf l) l (H .within) (H .full) (home l c) (shelfOf l k) (crewVector l c) (H .depot) (shelf-in (countsOf l) (H .within) k) (H .arrivals)
+    settled-settles (countsOf l) l (H .within) (H .full) (home l c) (shelfOf l k) (crewVector l c) (H .depot) (shelf-in (countsOf l) (H .within) k)
+    (H .arrivals)
     λ x z f. H .crew x z
 
 pub read-settles : (l : List ℕ) (c k : ℕ) → readNumber l c k ≡ 0 → Settles (countsOf l) l (readBook l c k) (home l c) (shelfOf l k)

@@ -3,17 +3,17 @@
 -- Assumes nothing.
 use Prim.Native.Nat.{ℕ}
 use native.Mathlib.Omega.{arith}
-use mathlib.Core.Path.{_≡_, refl, sym, ap, subst}
+use mathlib.Core.Path.{_≡_, refl, sym, subst}
 use mathlib.Core.List.{List, [], _∷_}
 use mathlib.Core.Bool.{Bool, true, _&&_, _||_}
 use lib.Dec.{leb, eqb}
 use borrow.Author.Tests.{leb-true, leb-false, le-leb, ltb-true, lt-ltb, eqb-true, eqb-false, eq-eqb}
 use Rattle.order.proofs.BoolLaws.{and-left, and-right, and-intro, pick-true}
-use Rattle.order.proofs.LoopLaws.{every-at, every-intro}
+use Rattle.order.proofs.LoopLaws.{every-intro}
 use Rattle.paper.specs.Calls.{Call, read, write, tick, take, refresh}
 use Rattle.book.specs.declared.parts.Counts.{Counts}
-use Rattle.book.specs.Layout.{bookWords, countsOf, linkOf}
-use Rattle.fit.specs.Fit.{countsFit, homeFit, inRange, crewFit, clockFit, homesFit, storedFit, Within, fit}
+use Rattle.book.specs.Layout.{countsOf}
+use Rattle.fit.specs.Fit.{homeFit, inRange, crewFit, clockFit, storedFit, Within, fit}
 use Rattle.fit.specs.Named.{tickParts, takeParts, refreshParts, readParts, writeParts, baseFit, tickFit, takeFit, refreshFit, readFit, writeFit}
 use Rattle.fit.proofs.FitLaws.{counts-within}
 use Rattle.fit.proofs.NamedLaws.{Based, base-open}
@@ -26,11 +26,12 @@ use Rattle.register.proofs.Numbers.{tick-done, take-done, refresh-done, read-do
 use Rattle.upkeep.specs.Requests.{Request, setup, call, numberAt, changedBy, bookAfter, last}
 use Rattle.upkeep.specs.Own.{Part, theLength, theCounts, aHome, aCrew, aClock, aStable, aStamp, aHead, aLink, aStored, Named, fitPart, Fits, fitFor}
 use Rattle.upkeep.proofs.FitFrame.{Keeps, counts-same}
-use Rattle.upkeep.proofs.FitSettled.{Settles}
-use Rattle.upkeep.proofs.FitKept.{tick-asked, take-asked, refresh-asked, read-asked, write-asked, tick-keeps, take-keeps, refresh-settles, read-settles, crew-open}
+use Rattle.upkeep.proofs.FitKept.{crew-open, tick-asked, take-asked, refresh-asked, read-asked, write-asked}
+use Rattle.upkeep.proofs.FitKept.{tick-keeps, take-keeps, refresh-settles, read-settles}
 use Rattle.upkeep.proofs.FitWrite.{write-settles}
 use Rattle.upkeep.proofs.FitSetup.{length-set-up, setup-fit}
-use Rattle.upkeep.proofs.FitOwnParts.{or-on, stable-open, stable-close, head-close, keeps-part, base-kept, tick-kept, take-kept, refresh-kept, read-kept, write-kept}
+use Rattle.upkeep.proofs.FitOwnParts.{or-on, stable-open, stable-close, head-close, keeps-part}
+use Rattle.upkeep.proofs.FitOwnParts.{base-kept, tick-kept, take-kept, refresh-kept, read-kept, write-kept}
 
 -- ---- a book is fit exactly if each of its parts is
 
@@ -93,7 +94,8 @@ counts-stay l q =
     (λ e. let K = call-keeps l q (eqb-true _ 0 e) .1 in counts-same l (changedBy l (call q)) (λ j k. K .low j (omega arith))) λ e. refl
 
 -- and a part that they name and that is fit stays fit
-pub part-stays : (l : List ℕ) (q : Call) (p : Part) → Named (countsOf l) p → fitPart (countsOf l) l p ≡ true → fitPart (countsOf l) (bookAfter l (call q)) p ≡ true
+pub part-stays :
+    (l : List ℕ) (q : Call) (p : Part) → Named (countsOf l) p → fitPart (countsOf l) l p ≡ true → fitPart (countsOf l) (bookAfter l (call q)) p ≡ true
 unfolding bookAfter after
 part-stays l q p k h =
     pick-cases (λ (m : List ℕ). fitPart (countsOf l) m p ≡ true) (eqb (numberAt l (call q)) 0) _ l
@@ -103,7 +105,8 @@ part-stays l q p k h =
 pub no-spread : (l : List ℕ) (r : Request) (p : Part) → Fits l p → Fits (bookAfter l r) p
 unfolding bookAfter after numberAt changedBy
 no-spread l (setup n homes) p F =
-    pick-cases (λ (m : List ℕ). Fits m p) (eqb (numberAt l (setup n homes)) 0) _ l (λ e. fit-parts (setUp n homes) (setup-fit l n homes (eqb-true _ 0 e)) p) λ e. F
+    pick-cases (λ (m : List ℕ). Fits m p) (eqb (numberAt l (setup n homes)) 0) _ l
+    (λ e. fit-parts (setUp n homes) (setup-fit l n homes (eqb-true _ 0 e)) p) λ e. F
 no-spread l (call q) p F =
     subst (λ (n : Counts). Named n p → fitPart n (bookAfter l (call q)) p ≡ true) (sym (counts-stay l q)) λ k. part-stays l q p k (F k)
 
@@ -118,7 +121,8 @@ never-spreads l (r ∷ rs) p F = never-spreads (bookAfter l r) rs p (no-spread l
 -- a test of the length, the counts and the homes, and then of parts by the counts, passes on with the parts
 passes :
     (l m : List ℕ) (parts : Counts → List ℕ → Bool) → Keeps (countsOf l) l m →
-    (Within (countsOf l) → parts (countsOf l) l ≡ true → parts (countsOf l) m ≡ true) → baseFit l && parts (countsOf l) l ≡ true → baseFit m && parts (countsOf m) m ≡ true
+    (Within (countsOf l) → parts (countsOf l) l ≡ true → parts (countsOf l) m ≡ true) → baseFit l && parts (countsOf l) l ≡ true →
+    baseFit m && parts (countsOf m) m ≡ true
 passes l m parts K on h =
     let b = and-left (baseFit l) _ h in
     and-intro (base-kept l m K b)
@@ -152,7 +156,8 @@ read-own l c k h =
     let S = read-settles l c k h in
     let t = read-done l c k h in
     passes l _ (λ n v. leb (n .crews) c || (leb (n .bearings) k || readParts n v c k)) (S .keeps)
-    (λ W. or-on (leb _ c) _ λ a. or-on (leb _ k) _ λ b. read-kept (countsOf l) l _ W c k (t .crew) (t .bearing) (read-asked l c k t .0 .homes c (t .crew)) S) (t .fits)
+    (λ W. or-on (leb _ c) _ λ a. or-on (leb _ k) _ λ b.
+    read-kept (countsOf l) l _ W c k (t .crew) (t .bearing) (read-asked l c k t .0 .homes c (t .crew)) S) (t .fits)
 
 write-own : (l : List ℕ) (c k value : ℕ) → writeNumber l c k value ≡ 0 → writeFit (writeBook l c k value) c k ≡ true
 unfolding writeFit
@@ -160,7 +165,8 @@ write-own l c k value h =
     let S = write-settles l c k value h in
     let t = write-done l c k value h in
     passes l _ (λ n v. leb (n .crews) c || (leb (n .bearings) k || writeParts n v c k)) (S .keeps)
-    (λ W. or-on (leb _ c) _ λ a. or-on (leb _ k) _ λ b. write-kept (countsOf l) l _ W c k (t .crew) (t .bearing) (write-asked l c k t .0 .homes c (t .crew)) S) (t .fits)
+    (λ W. or-on (leb _ c) _ λ a. or-on (leb _ k) _ λ b.
+    write-kept (countsOf l) l _ W c k (t .crew) (t .bearing) (write-asked l c k t .0 .homes c (t .crew)) S) (t .fits)
 
 done-own : (l : List ℕ) (r : Request) → numberAt l r ≡ 0 → fitFor (changedBy l r) r ≡ true
 unfolding numberAt changedBy fitFor

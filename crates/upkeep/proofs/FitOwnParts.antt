@@ -12,7 +12,7 @@ use lib.ListN.{length}
 use borrow.Author.Tests.{leb-true, le-leb, eqb-true, eq-eqb, eqb-false}
 use Rattle.order.specs.Loops.{every}
 use Rattle.order.specs.Record.{bearingOf}
-use Rattle.order.proofs.BoolLaws.{and-left, and-right, and-intro, or-right}
+use Rattle.order.proofs.BoolLaws.{and-left, and-right, and-intro}
 use Rattle.order.proofs.LoopLaws.{every-at, every-intro}
 use Rattle.order.proofs.VectorLaws.{covered-at, covered-intro}
 use Rattle.book.specs.declared.parts.Counts.{Counts}
@@ -128,7 +128,8 @@ module _ (n : Counts) (l m : List ℕ) (W : Within n) (d s : ℕ) (hd : d < n .d
   unfolding placesFit takenSlots Places fitPart
   places-kept from k f q h =
       every-intro (taken m (linkOf s from d)) _ λ i z.
-      let p = subst (λ (j : ℕ). Places (slot m (linkOf s from d) j)) (zero-add i) (all-slots-at Places m (linkOf s from d) 0 (taken m (linkOf s from d)) now i z) in
+      let p =
+      subst (λ (j : ℕ). Places (slot m (linkOf s from d) j)) (zero-add i) (all-slots-at Places m (linkOf s from d) 0 (taken m (linkOf s from d)) now i z) in
       keeps-part n l m W (S .keeps) (aStored d _) (hd, p .0) (p .1)
     where
       now : AllOf Places (takenSlots m (linkOf s from d))

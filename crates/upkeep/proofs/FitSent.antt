@@ -1,6 +1,6 @@
 -- Sending a fit message keeps every part of the book: of a link out no more is asked than that it has room.
 -- Assumes nothing.
-use Prim.Native.Nat.{ℕ, _+_, _≤_, _<_}
+use Prim.Native.Nat.{ℕ, _≤_, _<_}
 use native.Mathlib.Nat.{le-of-eq}
 use native.Mathlib.Omega.{arith}
 use mathlib.Core.Path.{_≡_, sym, _∙_, subst}
@@ -16,7 +16,7 @@ use Rattle.shelf.proofs.AllLaws.{AllOf, all-append, all-one}
 use Rattle.shelf.proofs.SendFrame.{Free, OffOut, length-sent, sent-off, sent-low}
 use Rattle.shelf.proofs.SentLaws.{sent-clock, sent-head, sent-first, sent-copies, sent-waiting, sent-stored}
 use Rattle.register.proofs.FitParts.{IsCopy, IsMessage}
-use Rattle.upkeep.proofs.FitFrame.{HeadOk, LinkKept, Keeps, crews-same, stable-same, stamp-same, link-stays, stored-same}
+use Rattle.upkeep.proofs.FitFrame.{LinkKept, Keeps, crews-same, stable-same, stamp-same, link-stays, stored-same}
 
 module _ (n : Counts) (l : List ℕ) (W : Within n) (full : length l ≡ 16384) (d s stamp : ℕ) (m : List ℕ) (hd : d < n .depots) (hs : s < n .shelves)
     (fits : stamp ≤ end) (ten : length m ≡ 10) (ok : IsMessage n s d m) (F : Free (n .depots) d s l) where

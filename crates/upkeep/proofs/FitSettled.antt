@@ -27,7 +27,8 @@ use Rattle.shelf.proofs.ShownLaws.{link-same, raisedBook, settleTurn, settled-c
 use Rattle.register.proofs.FitParts.{LinkOk, IsCopy, IsMessage}
 use Rattle.register.proofs.FitMessage.{copy-open, version-kept}
 use Rattle.register.proofs.FitReady.{link-sound}
-use Rattle.upkeep.proofs.FitFrame.{StableOk, HeadOk, LinkKept, Keeps, Same, crews-same, clock-same, stable-same, stamp-same, link-stays, stored-same, keeps-then}
+use Rattle.upkeep.proofs.FitFrame.{StableOk, LinkKept, Keeps, Same, crews-same, clock-same, stable-same, stamp-same, link-stays, stored-same}
+use Rattle.upkeep.proofs.FitFrame.{keeps-then}
 
 -- every link into shelf s of depot d is fit
 abbrev pub Arrivals : Counts → List ℕ → ℕ → ℕ → Type 0
@@ -37,7 +38,8 @@ Arrivals n l d s = (from : ℕ) → from < n .depots → (from ≡ d → ⊥) �
 pub record Settles (n : Counts) (l m : List ℕ) (d s : ℕ) : Type 1 where
   pub keeps : Keeps n l m
   pub fewer :
-      (P : List ℕ → Type 0) (from : ℕ) → from < n .depots → (from ≡ d → ⊥) → AllOf P (takenSlots l (linkOf s from d)) → AllOf P (takenSlots m (linkOf s from d))
+      (P : List ℕ → Type 0) (from : ℕ) → from < n .depots → (from ≡ d → ⊥) → AllOf P (takenSlots l (linkOf s from d)) →
+      AllOf P (takenSlots m (linkOf s from d))
 
 -- so does raise and show, and then a change that leaves the words of these links
 pub settles-then :
@@ -49,7 +51,8 @@ settles-then n l m v d s hs hd A S K slotted heads =
       keeps = keeps-then n l m v (S .keeps) K;
       fewer = λ P from k f h.
           let o = S .keeps .links s from d hs k hd f .whole (A from k f) in
-          subst (AllOf P) (sym (link-same m v (linkOf s from d) (K .size) (o .room) (o .first) (slotted from k f) (λ j x y. heads from k f j x (omega arith)) .copies))
+          let same = link-same m v (linkOf s from d) (K .size) (o .room) (o .first) (slotted from k f) (λ j x y. heads from k f j x (omega arith)) in
+          subst (AllOf P) (sym (same .copies))
           (S .fewer P from k f h);
     }
 

@@ -14,7 +14,7 @@ use Rattle.order.specs.Record.{bearingOf}
 use Rattle.order.proofs.BoolLaws.{eq-or-ne}
 use Rattle.order.proofs.VectorLaws.{length-merged, merged-entry, merged-other}
 use Rattle.book.specs.declared.parts.Counts.{Counts}
-use Rattle.book.specs.Layout.{end, crewAt, crewVector, storedAt, stored}
+use Rattle.book.specs.Layout.{end, crewAt, storedAt, stored}
 use Rattle.fit.specs.Fit.{keptFit, Within}
 use Rattle.shelf.specs.Show.{keptIn}
 use Rattle.shelf.proofs.FrameLaws.{Off, off-sides, part-off, length-kept-in, kept-in-low}
@@ -22,10 +22,11 @@ use Rattle.shelf.proofs.SweepLaws.{kept-in-stored, kept-in-other}
 use Rattle.shelf.proofs.AllLaws.{record-kept-all}
 use Rattle.register.proofs.FitParts.{Whole}
 use Rattle.register.proofs.FitMessage.{VersionOk, version-kept}
-use Rattle.upkeep.proofs.FitFrame.{CrewOk, Keeps, Same, crews-same, stored-same, keeps-off, keeps-whole}
+use Rattle.upkeep.proofs.FitFrame.{CrewOk, Keeps, crews-same, stored-same, keeps-off, keeps-whole}
 
 pub crew-merged-off :
-    (n : Counts) (l : List ℕ) (c : ℕ) (u : Vec) (j : ℕ) → Off (crewAt c) (n .depots) j → getD (mergedAt (n .depots) (n .depots) u (crewAt c) l) j 0 ≡ getD l j 0
+    (n : Counts) (l : List ℕ) (c : ℕ) (u : Vec) (j : ℕ) → Off (crewAt c) (n .depots) j →
+    getD (mergedAt (n .depots) (n .depots) u (crewAt c) l) j 0 ≡ getD l j 0
 crew-merged-off n l c u j off = merged-other (n .depots) (n .depots) u (crewAt c) l j (off-sides (crewAt c) (n .depots) j off)
 
 module _ (n : Counts) (l : List ℕ) (W : Within n) (full : length l ≡ 16384) where

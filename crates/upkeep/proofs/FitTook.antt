@@ -21,7 +21,7 @@ use Rattle.shelf.proofs.SendFrame.{length-took, took-off, took-low}
 use Rattle.shelf.proofs.TookLaws.{took-head, took-first, took-copies, took-waiting, took-seen, took-stored}
 use Rattle.register.proofs.FitParts.{LinkOk, IsCopy, IsMessage}
 use Rattle.register.proofs.FitMessage.{CopyOk, copy-close, message-cases, stamp-range}
-use Rattle.upkeep.proofs.FitFrame.{HeadOk, LinkKept, Keeps, crews-same, clock-same, stable-same, link-stays, stored-same}
+use Rattle.upkeep.proofs.FitFrame.{LinkKept, Keeps, crews-same, clock-same, stable-same, link-stays, stored-same}
 
 module _ (n : Counts) (l : List ℕ) (W : Within n) (full : length l ≡ 16384) (d s from : ℕ) (hd : d < n .depots) (hs : s < n .shelves) (hf : from < n .depots)
     (old : LinkOk n l s from (linkOf s from d)) (more : taken l (linkOf s from d) < held l (linkOf s from d)) where

@@ -118,7 +118,9 @@ module _ (l : List ℕ) (c k value : ℕ) (t : WriteDone l c k) where
       (made-message l c k value (t .bearing) (made-ok l c k value H (t .clocked))) (free l c k value t)
 
   -- the links into the shelf are left as raise and show left them
-  stays : (j : ℕ) → 100 ≤ j → j < 10596 → OffOut (countsOf l .depots) (home l c) (shelfOf l k) kept j → getD (writeBook l c k value) j 0 ≡ getD (settledHome l c k) j 0
+  stays :
+      (j : ℕ) → 100 ≤ j → j < 10596 → OffOut (countsOf l .depots) (home l c) (shelfOf l k) kept j →
+      getD (writeBook l c k value) j 0 ≡ getD (settledHome l c k) j 0
   unfolding kept writeBook writtenCrew
   stays j low high out =
       let a = B .within .depots in
@@ -127,8 +129,8 @@ module _ (l : List ℕ) (c k value : ℕ) (t : WriteDone l c k) where
       let g = t .crew in
       let x = H .depot in
       let y = shelf-in (countsOf l) (B .within) k in
-      sent-off (countsOf l .depots) (home l c) (shelfOf l k) (newStamp l c k) (copyKind ∷ madeRecord l c k value) kept (le-of-eq (ap suc (length-made l c k value)))
-      (free l c k value t) j (omega arith) out
+      sent-off (countsOf l .depots) (home l c) (shelfOf l k) (newStamp l c k) (copyKind ∷ madeRecord l c k value) kept
+      (le-of-eq (ap suc (length-made l c k value))) (free l c k value t) j (omega arith) out
       ∙ kept-in-low (countsOf l .depots) (home l c) (madeRecord l c k value) (writtenCrew l c k) j high
       ∙ getD-set-other (settledHome l c k) (crewAt c + home l c) j (newStamp l c k) 0 (omega arith)
 
@@ -139,7 +141,7 @@ module _ (l : List ℕ) (c k value : ℕ) (t : WriteDone l c k) where
       let e = B .within .shelves in
       let x = H .depot in
       let y = shelf-in (countsOf l) (B .within) k in
-      settles-then (countsOf l) l (settledHome l c k) (writeBook l c k value) (home l c) (shelfOf l k) (shelf-in (countsOf l) (B .within) k) (H .depot) (H .arrivals) S
+      settles-then (countsOf l) l (settledHome l c k) (writeBook l c k value) (home l c) (shelfOf l k) y (H .depot) (H .arrivals) S
       (keeps-then (countsOf l) _ _ _ crewed (keeps-then (countsOf l) _ _ _ storing sending))
       (λ from z f j u v. stays j (omega arith) (omega arith) (λ to p q. let r = free l c k value t .room to p q in (omega arith, omega arith)))
       (λ from z f j u v. stays j (omega arith) (omega arith) (λ to p q. let r = free l c k value t .room to p q in (omega arith, omega arith)))
