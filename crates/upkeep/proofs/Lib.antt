@@ -8,6 +8,7 @@ pub mod FitWrite
 pub mod FitSetup
 pub mod FitOwnParts
 pub mod FitOwn
+pub mod FitOwnCase
 pub mod PaperLaws
 pub mod NeverBadBook
 pub mod NeverBadAnswer
