@@ -6,8 +6,6 @@ use mathlib.Core.List.{List, [], _∷_}
 use lib.Dec.{eqb}
 use Rattle.book.specs.declared.parts.Counts.{Counts}
 use Rattle.book.specs.Layout.{home}
-use Rattle.fit.specs.Fit.{fit}
-use Rattle.register.specs.Promises as promises
 use Rattle.register.specs.Table as table
 use Rattle.upkeep.proofs.NeverBadBook.{fit-number}
 use Rattle.upkeep.proofs.NeverBadAnswer.{settled, refused-stays}

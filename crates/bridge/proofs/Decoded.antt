@@ -7,11 +7,11 @@ use mathlib.Core.Logic.{_⊎_, inl, inr, ⊎-elim}
 use mathlib.Core.Bool.{Bool, true, false}
 use mathlib.Core.List.{List, [], _∷_, _++_, map}
 use borrow.Author.Tests.{lt-ltb, le-ltb}
-use Rattle.order.specs.Loops.{pick}
+use Rattle.loops.specs.Loops.{pick}
 use Rattle.order.specs.Vector.{Vec, covered, zeros}
 use Rattle.order.specs.Order.{above}
 use Rattle.order.specs.Record.{valueOf, originOf, vectorOf, rankOf}
-use Rattle.order.proofs.BoolLaws.{decided, pick-true, pick-false}
+use Rattle.loops.proofs.BoolLaws.{decided, pick-true, pick-false}
 use Rattle.order.proofs.VectorLaws.{covered-same, zeros-same, zeros-at}
 use Rattle.order.proofs.OrderLaws.{above-unwritten, above-written, above-cong}
 use Rattle.book.specs.Layout.{held, taken, slot, recordOf}

@@ -6,7 +6,7 @@ use mathlib.Core.Bool.{Bool, _&&_, _||_}
 use mathlib.Core.List.{List}
 use lib.Dec.{leb, ltb, eqb}
 use lib.ListN.{length}
-use Rattle.order.specs.Loops.{every}
+use Rattle.loops.specs.Loops.{every}
 use Rattle.order.specs.Vector.{Vec, covered, zeros}
 use Rattle.order.specs.Record.{mostDepots, bearingOf, originOf, vectorOf}
 use Rattle.book.specs.declared.parts.Counts.{Counts}

@@ -9,7 +9,7 @@ use mathlib.Core.Bool.{true, false}
 use mathlib.Core.List.{List, [], _∷_}
 use Rattle.order.specs.Vector.{Vec, merged, zeros}
 use Rattle.order.proofs.VectorLaws.{zeros-at}
-use Rattle.order.proofs.BoolLaws.{eq-or-ne}
+use Rattle.loops.proofs.BoolLaws.{eq-or-ne}
 use Rattle.model.specs.Parts.{Counts, Version, Write, Message, copy, heartbeat, Shelf, State, stamp, stampOf, setShelf, setCrew, end}
 use Rattle.model.specs.Rules.{settle, storing, keep, send, taking, lowestSeen}
 use Rattle.paper.specs.Calls.{read, write, tick, take, refresh}

@@ -9,9 +9,9 @@ use mathlib.Core.Bool.{true, _&&_}
 use lib.Dec.{leb, eqb}
 use lib.ListN.{length}
 use borrow.Author.Tests.{leb-true, le-leb, ltb-true, lt-ltb, eqb-true, eq-eqb}
-use Rattle.order.specs.Loops.{every}
-use Rattle.order.proofs.BoolLaws.{and-left, and-right, and-intro, or-cases, or-left, or-right, eq-or-ne}
-use Rattle.order.proofs.LoopLaws.{every-at, every-intro}
+use Rattle.loops.specs.Loops.{every}
+use Rattle.loops.proofs.BoolLaws.{and-left, and-right, and-intro, or-cases, or-left, or-right, eq-or-ne}
+use Rattle.loops.proofs.LoopLaws.{every-at, every-intro}
 use Rattle.order.proofs.VectorLaws.{covered-at, covered-intro}
 use Rattle.book.specs.declared.parts.Counts.{Counts}
 use Rattle.book.specs.Layout.{end, countsOf, home, crewVector, clock, stable, seen, linkOf, held, taken, slot, stored}

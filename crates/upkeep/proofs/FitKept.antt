@@ -9,16 +9,16 @@ use mathlib.Core.Bool.{true}
 use lib.Dec.{leb}
 use lib.ListN.{length}
 use borrow.Author.Tests.{leb-true, ne-eqb}
-use Rattle.order.specs.Loops.{every}
-use Rattle.order.proofs.BoolLaws.{and-left, and-right, or-next}
-use Rattle.order.proofs.LoopLaws.{times-keeps, every-at}
+use Rattle.loops.specs.Loops.{every}
+use Rattle.loops.proofs.BoolLaws.{and-left, and-right, or-next}
+use Rattle.loops.proofs.LoopLaws.{times-keeps, every-at}
 use Rattle.book.specs.declared.parts.Counts.{Counts}
 use Rattle.book.specs.Layout.{end, countsOf, home, crewVector, clock, seen, linkOf, stored}
 use Rattle.fit.specs.Fit.{inRange, crewFit, stableFit, seenFit, linkFit, keptFit, storedFit, Within, fit}
-use Rattle.fit.specs.Named.{arrivalFit, showFit, tickParts, takeParts, refreshParts, homeParts, readParts, writeParts}
-use Rattle.fit.proofs.NamedLaws.{Based, base-open, tick-named, take-named, refresh-named, read-named, write-named}
-use Rattle.fit.proofs.NamedLaws.{tick-based, take-based, refresh-based, read-based, write-based}
-use Rattle.shelf.specs.Send.{beat, lowest, lowestSeen}
+use Rattle.named.specs.Named.{arrivalFit, showFit, tickParts, takeParts, refreshParts, homeParts, readParts, writeParts}
+use Rattle.named.proofs.NamedLaws.{Based, base-open, tick-named, take-named, refresh-named, read-named, write-named}
+use Rattle.named.proofs.NamedLaws.{tick-based, take-based, refresh-based, read-based, write-based}
+use Rattle.links.specs.Send.{beat, lowest, lowestSeen}
 use Rattle.shelf.proofs.FrameLaws.{pick-cases}
 use Rattle.register.specs.Table.{shelfOf, readNumber, tickNumber, takeNumber, refreshNumber}
 use Rattle.register.specs.Calls.{settledHome, readRecord, readBook, tickBook, takeBook, refreshBook}

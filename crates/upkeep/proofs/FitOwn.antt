@@ -8,15 +8,15 @@ use mathlib.Core.List.{List, [], _∷_}
 use mathlib.Core.Bool.{Bool, true, _&&_, _||_}
 use lib.Dec.{leb, eqb}
 use borrow.Author.Tests.{leb-true, leb-false, le-leb, ltb-true, lt-ltb, eqb-true, eqb-false, eq-eqb}
-use Rattle.order.proofs.BoolLaws.{and-left, and-right, and-intro, pick-true}
-use Rattle.order.proofs.LoopLaws.{every-intro}
+use Rattle.loops.proofs.BoolLaws.{and-left, and-right, and-intro, pick-true}
+use Rattle.loops.proofs.LoopLaws.{every-intro}
 use Rattle.paper.specs.Calls.{Call, read, write, tick, take, refresh}
 use Rattle.book.specs.declared.parts.Counts.{Counts}
 use Rattle.book.specs.Layout.{countsOf}
 use Rattle.fit.specs.Fit.{homeFit, inRange, crewFit, clockFit, storedFit, Within, fit}
-use Rattle.fit.specs.Named.{tickParts, takeParts, refreshParts, readParts, writeParts, baseFit, tickFit, takeFit, refreshFit, readFit, writeFit}
+use Rattle.named.specs.Named.{tickParts, takeParts, refreshParts, readParts, writeParts, baseFit, tickFit, takeFit, refreshFit, readFit, writeFit}
 use Rattle.fit.proofs.FitLaws.{counts-within}
-use Rattle.fit.proofs.NamedLaws.{Based, base-open}
+use Rattle.named.proofs.NamedLaws.{Based, base-open}
 use Rattle.shelf.proofs.FrameLaws.{pick-cases}
 use Rattle.register.specs.Table.{readNumber, writeNumber, tickNumber, takeNumber, refreshNumber}
 use Rattle.register.specs.Calls.{setUp, readBook, writeBook, tickBook, takeBook, refreshBook}

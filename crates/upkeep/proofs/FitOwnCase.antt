@@ -2,19 +2,19 @@
 -- Assumes nothing.
 use Prim.Native.Nat.{ℕ}
 use mathlib.Core.Path.{_≡_, refl}
-use mathlib.Core.List.{List, [], _∷_, _++_}
+use mathlib.Core.List.{List, _∷_, _++_}
 use mathlib.Core.Bool.{false}
 use lib.ListN.{replicate}
-use Rattle.order.specs.Loops.{every, pick}
+use Rattle.loops.specs.Loops.{every, pick}
 use Rattle.order.specs.Vector.{covered, zeros}
 use Rattle.paper.specs.Calls.{first, read, write, tick, refresh}
 use Rattle.book.specs.Words.{part}
 use Rattle.book.specs.Layout.{countsOf}
 use Rattle.fit.specs.Fit.{between, inRange, othersInRange, countsFit, homeFit, crewFit, clockFit, stableFit, seenFit, versionFit, headFit, messagesFit}
 use Rattle.fit.specs.Fit.{linkFit, keptFit, storedFit, homesFit}
-use Rattle.fit.specs.Named.{headsOutFit, placesFit, arrivalFit, showFit, tickParts, refreshParts, homeParts, readParts, writeParts}
-use Rattle.fit.specs.Named.{baseFit, tickFit, refreshFit, readFit, writeFit}
-use Rattle.shelf.specs.Send.{roomy}
+use Rattle.named.specs.Named.{headsOutFit, placesFit, arrivalFit, showFit, tickParts, refreshParts, homeParts, readParts, writeParts}
+use Rattle.named.specs.Named.{baseFit, tickFit, refreshFit, readFit, writeFit}
+use Rattle.links.specs.Send.{roomy}
 use Rattle.register.specs.Table.{readNumber, writeNumber, tickNumber, refreshNumber}
 use Rattle.upkeep.specs.Requests.{call, numberAt}
 use Rattle.upkeep.specs.Own.{aClock, fitPart}

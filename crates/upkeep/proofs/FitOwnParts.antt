@@ -10,17 +10,17 @@ use mathlib.Core.Bool.{Bool, true, false, _&&_, _||_}
 use lib.Dec.{leb, ltb, eqb}
 use lib.ListN.{length}
 use borrow.Author.Tests.{leb-true, le-leb, eqb-true, eq-eqb, eqb-false}
-use Rattle.order.specs.Loops.{every}
+use Rattle.loops.specs.Loops.{every}
 use Rattle.order.specs.Record.{bearingOf}
-use Rattle.order.proofs.BoolLaws.{and-left, and-right, and-intro}
-use Rattle.order.proofs.LoopLaws.{every-at, every-intro}
+use Rattle.loops.proofs.BoolLaws.{and-left, and-right, and-intro}
+use Rattle.loops.proofs.LoopLaws.{every-at, every-intro}
 use Rattle.order.proofs.VectorLaws.{covered-at, covered-intro}
 use Rattle.book.specs.declared.parts.Counts.{Counts}
 use Rattle.book.specs.Layout.{bookWords, end, countsOf, home, stable, seen, linkOf, held, taken, slot, recordOf}
 use Rattle.fit.specs.Fit.{countsFit, homeFit, inRange, othersInRange, crewFit, clockFit, stableFit, seenFit, headFit, linkFit, storedFit, homesFit, Within}
-use Rattle.fit.specs.Named.{headsOutFit, placesFit, arrivalFit, showFit, tickParts, takeParts, refreshParts, homeParts, readParts, writeParts, baseFit}
-use Rattle.fit.proofs.MessageLaws.{link-bearings}
-use Rattle.fit.proofs.NamedLaws.{base-open}
+use Rattle.named.specs.Named.{headsOutFit, placesFit, arrivalFit, showFit, tickParts, takeParts, refreshParts, homeParts, readParts, writeParts, baseFit}
+use Rattle.versions.proofs.MessageLaws.{link-bearings}
+use Rattle.named.proofs.NamedLaws.{base-open}
 use Rattle.shelf.proofs.AllLaws.{AllOf, all-slots, all-slots-at}
 use Rattle.shelf.proofs.ShowLaws.{takenSlots}
 use Rattle.register.proofs.FitParts.{link-open, link-close}

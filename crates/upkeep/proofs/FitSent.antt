@@ -7,14 +7,14 @@ use mathlib.Core.Path.{_≡_, sym, _∙_, subst}
 use mathlib.Core.Logic.{⊎-elim}
 use mathlib.Core.List.{List, [], _∷_}
 use lib.ListN.{length, getD}
-use Rattle.order.proofs.BoolLaws.{eq-or-ne}
+use Rattle.loops.proofs.BoolLaws.{eq-or-ne}
 use Rattle.book.specs.declared.parts.Counts.{Counts}
 use Rattle.book.specs.Layout.{end, clock, clockAt, linkOf}
 use Rattle.fit.specs.Fit.{Within}
-use Rattle.shelf.specs.Send.{sent}
+use Rattle.links.specs.Send.{sent}
 use Rattle.shelf.proofs.AllLaws.{AllOf, all-append, all-one}
-use Rattle.shelf.proofs.SendFrame.{Free, OffOut, length-sent, sent-off, sent-low}
-use Rattle.shelf.proofs.SentLaws.{sent-clock, sent-head, sent-first, sent-copies, sent-waiting, sent-stored}
+use Rattle.links.proofs.SendFrame.{Free, OffOut, length-sent, sent-off, sent-low}
+use Rattle.links.proofs.SentLaws.{sent-clock, sent-head, sent-first, sent-copies, sent-waiting, sent-stored}
 use Rattle.register.proofs.FitParts.{IsCopy, IsMessage}
 use Rattle.upkeep.proofs.FitFrame.{LinkKept, Keeps, crews-same, stable-same, stamp-same, link-stays, stored-same}
 

@@ -12,8 +12,8 @@ use lib.ListN.{length, getD}
 use borrow.Author.Tests.{eqb-false}
 use Rattle.order.specs.Vector.{Vec}
 use Rattle.order.specs.Record.{bearingOf}
-use Rattle.order.proofs.BoolLaws.{eq-or-ne}
-use Rattle.order.proofs.LoopLaws.{times-keeps}
+use Rattle.loops.proofs.BoolLaws.{eq-or-ne}
+use Rattle.loops.proofs.LoopLaws.{times-keeps}
 use Rattle.order.proofs.VectorLaws.{merged-own, merged-entry}
 use Rattle.book.specs.declared.parts.Counts.{Counts}
 use Rattle.book.specs.Layout.{end, stable, stableAt, slotAt, heldAt, storedAt, linkOf, stored, recordOf}

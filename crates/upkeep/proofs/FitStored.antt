@@ -11,7 +11,7 @@ use lib.ListN.{length, getD, set, length-set}
 use lib.Seq.{getD-set-same, getD-set-other}
 use Rattle.order.specs.Vector.{Vec, mergedAt}
 use Rattle.order.specs.Record.{bearingOf}
-use Rattle.order.proofs.BoolLaws.{eq-or-ne}
+use Rattle.loops.proofs.BoolLaws.{eq-or-ne}
 use Rattle.order.proofs.VectorLaws.{length-merged, merged-entry, merged-other}
 use Rattle.book.specs.declared.parts.Counts.{Counts}
 use Rattle.book.specs.Layout.{end, crewAt, storedAt, stored}

@@ -9,16 +9,16 @@ use mathlib.Core.Bool.{true, false}
 use lib.Dec.{eqb}
 use lib.ListN.{length, getD}
 use borrow.Author.Tests.{eqb-false}
-use Rattle.order.proofs.BoolLaws.{decided, pick-true, pick-false, eq-or-ne}
+use Rattle.loops.proofs.BoolLaws.{decided, pick-true, pick-false, eq-or-ne}
 use Rattle.book.specs.declared.parts.Counts.{Counts}
 use Rattle.book.specs.Layout.{end, beatKind, seen, seenAt, slotAt, heldAt, linkOf, held, taken, slot, kindOf}
 use Rattle.fit.specs.Fit.{Within}
-use Rattle.shelf.specs.Send.{took}
+use Rattle.links.specs.Send.{took}
 use Rattle.shelf.proofs.FrameLaws.{Off}
 use Rattle.shelf.proofs.AllLaws.{AllOf, all-append, all-one, all-first, all-rest}
 use Rattle.shelf.proofs.ShowLaws.{untakenSlots}
-use Rattle.shelf.proofs.SendFrame.{length-took, took-off, took-low}
-use Rattle.shelf.proofs.TookLaws.{took-head, took-first, took-copies, took-waiting, took-seen, took-stored}
+use Rattle.links.proofs.SendFrame.{length-took, took-off, took-low}
+use Rattle.links.proofs.TookLaws.{took-head, took-first, took-copies, took-waiting, took-seen, took-stored}
 use Rattle.register.proofs.FitParts.{LinkOk, IsCopy, IsMessage}
 use Rattle.register.proofs.FitMessage.{CopyOk, copy-close, message-cases, stamp-range}
 use Rattle.upkeep.proofs.FitFrame.{LinkKept, Keeps, crews-same, clock-same, stable-same, link-stays, stored-same}
@@ -65,7 +65,7 @@ module _ (n : Counts) (l : List ℕ) (W : Within n) (full : length l ≡ 16384) 
       (λ (p : seenAt e r + x ≡ seenAt d s + from → ⊥). rw (stays (seenAt e r + x) p (omega arith) (omega arith)) h)
       (eq-or-ne (seenAt e r + x) (seenAt d s + from))
     where
-      now : getD after (seenAt d s + from) 0 ≡ Rattle.shelf.specs.Send.stampFrom from message
+      now : getD after (seenAt d s + from) 0 ≡ Rattle.links.specs.Send.stampFrom from message
       now = unfold after message in took-seen d s from l d4 s4 f4 full (old .room) more
 
   -- the link that it was taken from, by the kind of the message

@@ -11,14 +11,14 @@ use lib.ListN.{getD}
 use lib.Seq.{getD-set-other}
 use borrow.Author.Tests.{eq-eqb}
 use Rattle.order.specs.Record.{bearingOf, originOf, vectorOf}
-use Rattle.order.proofs.BoolLaws.{and-left, pick-true}
+use Rattle.loops.proofs.BoolLaws.{and-left, pick-true}
 use Rattle.book.specs.Layout.{end, copyKind, crewAt, countsOf, home, crewVector, clock}
 use Rattle.fit.specs.Fit.{fit}
-use Rattle.fit.specs.Named.{readParts, writeParts}
-use Rattle.fit.proofs.NamedLaws.{Based}
+use Rattle.named.specs.Named.{readParts, writeParts}
+use Rattle.named.proofs.NamedLaws.{Based}
 use Rattle.shelf.specs.Show.{keptIn}
 use Rattle.shelf.proofs.FrameLaws.{pick-cases, kept-in-low}
-use Rattle.shelf.proofs.SendFrame.{OffOut, sent-off}
+use Rattle.links.proofs.SendFrame.{OffOut, sent-off}
 use Rattle.register.specs.Table.{shelfOf, writeNumber}
 use Rattle.register.specs.Calls.{settledHome, newStamp, madeVector, madeRecord, writtenCrew, writeBook}
 use Rattle.register.proofs.FitParts.{IsMessage, Whole}

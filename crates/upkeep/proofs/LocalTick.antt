@@ -5,28 +5,28 @@ use Prim.Native.Nat.{ℕ, zero, suc, _+_, _≤_, _<_}
 use native.Mathlib.Nat.{le-refl}
 use native.Mathlib.Omega.{arith}
 use mathlib.Core.Path.{_≡_, refl, sym, _∙_, ap, ap₂, subst}
-use mathlib.Core.Logic.{_⊎_, inl, inr, ⊎-elim}
+use mathlib.Core.Logic.{_⊎_, ⊎-elim}
 use mathlib.Core.List.{List, [], _∷_}
 use mathlib.Core.Bool.{Bool, true, false, not, _&&_, _||_}
 use lib.Dec.{leb, ltb, eqb}
 use lib.ListN.{length, getD, set, length-set}
 use lib.Seq.{getD-set-same, getD-set-other}
 use borrow.Author.Tests.{leb-false, eqb-true, eqb-false}
-use Rattle.order.specs.Loops.{times, every, pick}
-use Rattle.order.proofs.BoolLaws.{decided, and-next, and-stop, or-stop, le-or-lt, eq-or-ne, pick-true, pick-false}
-use Rattle.order.proofs.LoopLaws.{every-same}
+use Rattle.loops.specs.Loops.{times, pick}
+use Rattle.loops.proofs.BoolLaws.{eq-or-ne}
+use Rattle.loops.proofs.LoopLaws.{every-same}
 use Rattle.book.specs.declared.parts.Counts.{Counts}
 use Rattle.book.specs.Words.{put}
-use Rattle.book.specs.Layout.{bookWords, end, clockAt, slotAt, heldAt, takenAt, linkOf, countsOf, home, clock, held, taken}
-use Rattle.book.proofs.WordsLaws.{length-put, put-in, put-out}
-use Rattle.fit.specs.Fit.{countsFit, Within, homeFit, homesFit, clockFit, headFit}
-use Rattle.fit.specs.Named.{headsOutFit, tickParts, baseFit, tickFit}
+use Rattle.book.specs.Layout.{bookWords, end, clockAt, slotAt, heldAt, takenAt, linkOf, countsOf, clock, held}
+use Rattle.book.proofs.WordsLaws.{length-put}
+use Rattle.fit.specs.Fit.{countsFit, homeFit, homesFit, clockFit, headFit}
+use Rattle.named.specs.Named.{headsOutFit, tickParts, baseFit, tickFit}
 use Rattle.fit.proofs.FitLaws.{counts-within}
-use Rattle.fit.proofs.NamedLaws.{Based, base-open, tick-based}
+use Rattle.named.proofs.NamedLaws.{base-open, tick-based}
 use Rattle.shelf.specs.Asks.{Free}
-use Rattle.shelf.specs.Send.{roomy, sentTo, sent, beat}
+use Rattle.links.specs.Send.{roomy, sentTo, sent, beat}
 use Rattle.shelf.proofs.FrameLaws.{pick-cases}
-use Rattle.shelf.proofs.SendFrame.{OffOut, sentUpTo, length-sent-up-to, held-up-to, sent-off}
+use Rattle.links.proofs.SendFrame.{OffOut, sentUpTo, length-sent-up-to, held-up-to, sent-off}
 use Rattle.paper.specs.Calls.{first}
 use Rattle.register.specs.Table.{tickNumber}
 use Rattle.register.specs.Calls.{tickBook}

@@ -7,9 +7,9 @@ use mathlib.Core.List.{List}
 use mathlib.Core.Bool.{Bool, true, false}
 use lib.Dec.{eqb}
 use borrow.Author.Tests.{eqb-true, ne-eqb}
-use Rattle.order.specs.Loops.{pick}
-use Rattle.order.proofs.BoolLaws.{decided, pick-true, pick-false}
-use Rattle.paper.specs.Calls.{read, write, tick, take, refresh, Answer, refused, done, numberIn, answerBy}
+use Rattle.loops.specs.Loops.{pick}
+use Rattle.loops.proofs.BoolLaws.{decided, pick-true, pick-false}
+use Rattle.paper.specs.Calls.{read, write, tick, take, refresh, Answer, numberIn, answerBy}
 use Rattle.book.specs.declared.parts.Counts.{Counts}
 use Rattle.fit.specs.Fit.{fit}
 use Rattle.register.specs.declared.answer.Answer as register

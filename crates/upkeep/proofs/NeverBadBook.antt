@@ -7,13 +7,13 @@ use mathlib.Core.List.{List, [], _∷_}
 use mathlib.Core.Bool.{Bool, true, false, not}
 use lib.ListN.{length}
 use borrow.Author.Tests.{eq-eqb}
-use Rattle.order.specs.Loops.{pick}
-use Rattle.order.proofs.BoolLaws.{pick-true}
+use Rattle.loops.specs.Loops.{pick}
+use Rattle.loops.proofs.BoolLaws.{pick-true}
 use Rattle.book.specs.declared.parts.Counts.{Counts}
 use Rattle.book.specs.Layout.{bookWords}
 use Rattle.fit.specs.Fit.{fit}
 use Rattle.fit.proofs.FitLaws.{fit-open}
-use Rattle.fit.proofs.NamedLaws.{fit-tick, fit-take, fit-refresh, fit-read, fit-write}
+use Rattle.named.proofs.NamedLaws.{fit-tick, fit-take, fit-refresh, fit-read, fit-write}
 use Rattle.paper.specs.Calls.{first, read, write, tick, take, refresh}
 use Rattle.register.specs.Table.{setupNumber, readNumber, writeNumber, tickNumber, takeNumber, refreshNumber}
 use Rattle.register.specs.Calls.{setUp}

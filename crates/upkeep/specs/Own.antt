@@ -10,7 +10,7 @@ use Rattle.paper.specs.Calls.{read, write, tick, take, refresh}
 use Rattle.book.specs.declared.parts.Counts.{Counts}
 use Rattle.book.specs.Layout.{bookWords, end, countsOf, seen, linkOf}
 use Rattle.fit.specs.Fit.{countsFit, homeFit, crewFit, clockFit, stableFit, headFit, linkFit, storedFit}
-use Rattle.fit.specs.Named.{tickFit, takeFit, refreshFit, readFit, writeFit}
+use Rattle.named.specs.Named.{tickFit, takeFit, refreshFit, readFit, writeFit}
 use Rattle.upkeep.specs.Requests.{Request, setup, call}
 
 -- the parts that are judged one by one
