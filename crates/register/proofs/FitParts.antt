@@ -79,7 +79,7 @@ link-open n l s from q h =
       messages = all-slots (IsMessage n s from) l q (taken l q) (held l q - taken l q) (every-at (held l q - taken l q) _ (and-right (every (taken l q) (λ i. copyFit n s from (slot l q i))) _ h2));
     }
 
-link-close : (n : Counts) (l : List ℕ) (s from q : ℕ) → LinkOk n l s from q → linkFit n l s from q ≡ true
+pub link-close : (n : Counts) (l : List ℕ) (s from q : ℕ) → LinkOk n l s from q → linkFit n l s from q ≡ true
 unfolding linkFit headFit messagesFit takenSlots untakenSlots
 link-close n l s from q h =
     and-intro (and-intro (le-leb _ _ (h .room)) (le-leb _ _ (h .first)))

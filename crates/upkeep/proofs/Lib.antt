@@ -6,6 +6,9 @@ pub mod FitStored
 pub mod FitKept
 pub mod FitWrite
 pub mod FitSetup
+pub mod FitOwnParts
+pub mod FitOwn
+pub mod FitOwnCase
 pub mod PaperLaws
 pub mod NeverBadBook
 pub mod NeverBadAnswer
