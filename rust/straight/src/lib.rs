@@ -1,5 +1,4 @@
-//! The depot register, written a second time: plainly, from the specification and `docs/LAYOUT.md` alone
-//! (the calendar, and the order by sums, by hands that had read the proved ones).
+//! The depot register, written a second time: plainly, from the specification and `docs/LAYOUT.md` alone.
 //!
 //! It shares no line with the proved core. Where the two differ, one of them has misread the specification;
 //! `replay` looks for such a difference.
