@@ -14,8 +14,8 @@ pub fn is_fit(book: &[u32]) -> bool {
         && (0..n.depots).all(|depot| (0..n.bearings).all(|bearing| stored_is_fit(book, n, depot, bearing)))
 }
 
-/// What every call but setup asks for: the length, the counts and the homes of all crews.
-pub(crate) fn counts_and_homes(book: &[u32]) -> bool {
+/// Whether that is fit which every call but setup asks for: the length, the counts and the homes of all crews.
+pub fn counts_and_homes(book: &[u32]) -> bool {
     if book.len() != WORDS || !counts_are_fit([book[0], book[1], book[2], book[3]]) {
         return false;
     }

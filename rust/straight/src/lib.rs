@@ -25,7 +25,7 @@ mod order;
 
 pub use calls::{below, read, refresh, setup, take, tick, vector, write, Reading, Written};
 pub use desk::{desk, line, LONGEST_LINE};
-pub use fit::is_fit;
+pub use fit::{counts_and_homes, is_fit};
 pub use layout::{Counts, WORDS};
 pub use order::{above, greater};
 
