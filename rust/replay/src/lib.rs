@@ -4,6 +4,7 @@
 //! book in turn, for each call; [`parts`] says what a call looks at. [`slips`] are registers with one mistake each, to show
 //! that it would be found.
 
+pub mod arguments;
 pub mod books;
 pub mod compare;
 pub mod damage;

@@ -1,49 +1,33 @@
-//! Replays random lists on the straight version and on the static library; see [`USAGE`].
+//! Replays random lists on the straight version and on the static library. [`arguments`](replay::arguments) says how it is
+//! asked.
 
 use std::process::exit;
 use std::time::{Duration, Instant};
 use std::{env, fs, path::Path};
 
+use replay::arguments::{self, Goal, Task};
 use replay::compare::{replay_list, tell, Finding};
 use replay::damage::{self, Damaged, Trouble};
 use replay::progress::Progress;
 use replay::register::{Register, Straight};
 use replay::shrink::shrink;
-use replay::slips::{slips, Slip, Slipped};
+use replay::slips::Slipped;
 use replay::stream::stream;
 use replay::tally::Tally;
 
-const USAGE: &str = "\
-usage: replay [EVENTS] [--seed FIRST] [--slip NAME]          EVENTS (200000), half as many damaged lines and damaged books
-       replay --long [--seed FIRST] [--slip NAME]            10,000,000 events, 1,000,000 damaged lines and damaged books
-       replay --damage [ROUNDS] [--seed FIRST] [--slip NAME] each word of a book damaged, for each call; 4 rounds a book (16)
-       replay --lines FOLDER [COUNT] [--seed FIRST]          desk.in and desk.out, for a desk program
-Counts are 1 or more.";
-
-/// What there is to do, at least.
-struct Goal {
-    /// All events but damaged lines.
-    events: u64,
-    damaged_lines: u64,
-    damaged_books: u64,
-}
-
-enum Task {
-    Lists(Goal),
-    Damage(u64),
-    Lines(String, u64),
-}
-
 fn main() {
-    let (task, seed, slip) = arguments();
-    let other: Box<dyn Register> = match slip {
+    let asked = arguments::parse(env::args().skip(1)).unwrap_or_else(|why| {
+        eprintln!("replay: {}\n{}", why, arguments::USAGE);
+        exit(2);
+    });
+    let other: Box<dyn Register> = match asked.slip {
         Some(slip) => Box::new(Slipped(slip)),
         None => library(),
     };
-    match task {
-        Task::Lists(goal) => replay_all(&*other, goal, seed),
-        Task::Damage(rounds) => damage_all(&*other, rounds, seed),
-        Task::Lines(folder, count) => write_lines(Path::new(&folder), count, seed),
+    match asked.task {
+        Task::Lists(goal) => replay_all(&*other, goal, asked.seed),
+        Task::Damage(rounds) => damage_all(&*other, rounds, asked.seed),
+        Task::Lines(folder, count) => write_lines(Path::new(&folder), count, asked.seed),
     }
 }
 
@@ -58,42 +42,12 @@ fn library() -> Box<dyn Register> {
     exit(2);
 }
 
-/// What the command line asks for; what it cannot ask for ends in the usage.
-fn arguments() -> (Task, u64, Option<Slip>) {
-    let (mut long, mut damage, mut folder, mut count, mut seed, mut slip) = (false, false, None, None, None, None);
-    let mut words = env::args().skip(1);
-    while let Some(word) = words.next() {
-        let mut next = || words.next().unwrap_or_else(|| usage());
-        let twice = match &word[..] {
-            "--long" => std::mem::replace(&mut long, true),
-            "--damage" => std::mem::replace(&mut damage, true),
-            "--lines" => folder.replace(next()).is_some(),
-            "--seed" => seed.replace(next().parse().unwrap_or_else(|_| usage())).is_some(),
-            "--slip" => slip.replace(slip_named(&next())).is_some(),
-            _ => count.replace(word.parse().ok().filter(|&count: &u64| count > 0).unwrap_or_else(|| usage())).is_some(),
-        };
-        if twice {
-            usage();
-        }
-    }
-    let task = match (long, damage, folder, count) {
-        (false, false, None, count) => {
-            let events = count.unwrap_or(200_000);
-            Task::Lists(Goal { events, damaged_lines: events / 2, damaged_books: events / 2 })
-        }
-        (true, false, None, None) => Task::Lists(Goal { events: 10_000_000, damaged_lines: 1_000_000, damaged_books: 1_000_000 }),
-        (false, true, None, count) => Task::Damage(count.unwrap_or(16)),
-        (false, false, Some(folder), count) if slip.is_none() => Task::Lines(folder, count.unwrap_or(200_000)),
-        _ => usage(),
-    };
-    (task, seed.unwrap_or(1), slip)
-}
-
 /// The lists of the seeds from the first on, until there are events and damaged lines enough; then rounds of damage, until
 /// there are damaged books enough.
 fn replay_all(other: &dyn Register, goal: Goal, first: u64) {
     let start = Instant::now();
-    let mut progress = Progress::new("replay", "events, lines and books", goal.events + goal.damaged_lines + goal.damaged_books);
+    let all = [goal.damaged_lines, goal.damaged_books].iter().fold(goal.events, |sum, &more| sum.saturating_add(more));
+    let mut progress = Progress::new("replay", "events, lines and books", all);
     let mut tally = Tally::default();
     let mut lists = 0;
     while tally.events < goal.events || tally.bad_lines < goal.damaged_lines {
@@ -103,13 +57,13 @@ fn replay_all(other: &dyn Register, goal: Goal, first: u64) {
             differ(other, finding, &format!("replay 1 --seed {}", seed));
         }
         lists += 1;
-        progress.at(tally.events + tally.bad_lines);
+        progress.at(tally.events.min(goal.events) + tally.bad_lines.min(goal.damaged_lines));
     }
-    let before = tally.events + tally.bad_lines;
+    let before = goal.events + goal.damaged_lines;
     let mut damaged = Damaged::default();
     let mut rounds = 0;
     while damaged.books < goal.damaged_books {
-        one_round(other, first.wrapping_add(rounds), &mut damaged, &mut progress, |books| before + books);
+        one_round(other, first.wrapping_add(rounds), &mut damaged, &mut progress, |books| before + books.min(goal.damaged_books));
         rounds += 1;
     }
     progress.end();
@@ -130,7 +84,7 @@ fn replay_all(other: &dyn Register, goal: Goal, first: u64) {
 fn damage_all(other: &dyn Register, rounds: u64, first: u64) {
     let start = Instant::now();
     // About so many damaged books has a round.
-    let mut progress = Progress::new("replay", "damaged books", rounds * 9 * 15_000);
+    let mut progress = Progress::new("replay", "damaged books", rounds.saturating_mul(9 * 15_000));
     let mut damaged = Damaged::default();
     for round in 0..rounds {
         one_round(other, first.wrapping_add(round), &mut damaged, &mut progress, |books| books);
@@ -186,17 +140,4 @@ fn write_lines(folder: &Path, count: u64, seed: u64) {
     let answers: Vec<&[u8]> = output.split(|&byte| byte == b'\n').collect();
     let bad = answers.iter().filter(|&&answer| answer == b"13").count();
     println!("replay: {} lines in desk.in, {} of them BAD LINE, and their answers in desk.out", answers.len() - 1, bad);
-}
-
-fn slip_named(name: &str) -> Slip {
-    slips().into_iter().find(|slip| slip.to_string() == name).unwrap_or_else(|| {
-        let names: Vec<String> = slips().iter().map(Slip::to_string).collect();
-        eprintln!("replay: the slips are {}", names.join(" "));
-        exit(2);
-    })
-}
-
-fn usage() -> ! {
-    eprintln!("{}", USAGE);
-    exit(2);
 }
