@@ -7,7 +7,7 @@ use replay::register::{Register, Straight, ANSWER_BYTES};
 use straight::layout::{clock, crew_vector, held, home, link, taken};
 use straight::{Counts, WORDS};
 
-/// The calls that are timed alone.
+/// What is timed: one call alone, or many mixed.
 #[derive(Clone, Copy, Debug, PartialEq, Eq)]
 pub enum Kind {
     Setup,
@@ -17,8 +17,12 @@ pub enum Kind {
     Take,
     Refresh,
     IsFit,
+    Mixed,
 }
 
+pub const COUNT_OF_KINDS: usize = 8;
+
+/// The calls that are timed alone.
 pub const KINDS: [(Kind, &str); 7] = [
     (Kind::Setup, "setup"),
     (Kind::Read, "read"),
@@ -29,7 +33,7 @@ pub const KINDS: [(Kind, &str); 7] = [
     (Kind::IsFit, "is_fit"),
 ];
 
-/// Calls in a row whose times are added up; those of one kind, but for the mixed events.
+/// Calls in a row that are timed together.
 pub struct Block {
     pub kind: Kind,
     pub events: Vec<Event>,
@@ -167,7 +171,7 @@ pub fn alone(counts: [u32; 4], count: usize) -> (Vec<u32>, Vec<Block>) {
     let shelves = course.n.depots * course.n.shelves;
     let start = course.book.clone();
     let mut blocks: Vec<Block> = Vec::new();
-    let mut made = [0; KINDS.len()];
+    let mut made = [0; COUNT_OF_KINDS];
     while KINDS.iter().any(|&(kind, _)| made[kind as usize] < count) {
         let mut round = vec![
             course.block(Kind::Write, 8 * shelves, Course::write),

@@ -94,16 +94,16 @@ pub fn round(
 /// A fit book: laid at random, the largest one or any; or reached by calls, in a small register or any.
 fn book(random: &mut Random, kind: usize) -> Vec<u32> {
     let mut book = vec![0; BUFFER];
-    let mut first = |event: Event| drop(Step::new(event).run(&Straight, &mut book));
-    match kind {
-        0 => first(lay(random, [MOST_DEPOTS, MOST_SHELVES, MOST_BEARINGS, MOST_CREWS])),
-        1 => first(Event::Setup { counts: [2, 2, 4, 2], homes: vec![0, 1] }),
+    let first = match kind {
+        0 => lay(random, [MOST_DEPOTS, MOST_SHELVES, MOST_BEARINGS, MOST_CREWS]),
+        1 => Event::Setup { counts: [2, 2, 4, 2], homes: vec![0, 1] },
         2 => {
             let counts = counts(random);
-            first(lay(random, counts));
+            lay(random, counts)
         }
-        _ => first(setup(random)),
-    }
+        _ => setup(random),
+    };
+    Step::new(first).run(&Straight, &mut book);
     if kind % 2 == 1 {
         // More is sent than taken, and more taken than shown.
         for _ in 0..600 {

@@ -298,7 +298,7 @@ impl Tally {
         self.mark_if(reasons > 1, Mark::Several);
         if number == straight::Refusal::LinkFull as usize {
             self.mark_if(links().filter(|&link| full(link)).all(|link| book[taken(link)] > 0), Mark::FullByTaken);
-            self.mark_if(links().next().map_or(false, |link| !full(link)), Mark::FullLater);
+            self.mark_if(links().next().is_some_and(|link| !full(link)), Mark::FullLater);
         }
     }
 

@@ -201,7 +201,7 @@ impl Slipped {
     }
 
     fn crew_and_bearing(&self, book: &[u32], n: Counts, crew: u32, bearing: u32) -> Answer<(usize, usize)> {
-        if self.has(Slip::HomeBeforeCrew) && book.get(4 + crew as usize).map_or(false, |&home| home as usize >= n.depots) {
+        if self.has(Slip::HomeBeforeCrew) && book.get(4 + crew as usize).is_some_and(|&home| home as usize >= n.depots) {
             return Err(Refusal::BadDepot);
         }
         if self.has(Slip::KeyFirst) {
