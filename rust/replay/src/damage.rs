@@ -106,9 +106,10 @@ fn book(random: &mut Random, kind: usize) -> Vec<u32> {
     Step::new(first).run(&Straight, &mut book);
     if kind % 2 == 1 {
         // More is sent than taken, and more taken than shown.
-        for _ in 0..600 {
-            let kind = random.choose(&[0, 1, 1, 1, 1, 2, 2, 3, 3, 3, 3, 3]);
-            Step::new(event(random, Counts::of(&book), kind)).run(&Straight, &mut book);
+        let n = Counts::of(&book);
+        for _ in 0..40 * n.depots * n.shelves {
+            let kind = random.choose(&[0, 1, 1, 1, 1, 2, 2, 3, 3, 3, 3, 4]);
+            Step::new(event(random, n, kind)).run(&Straight, &mut book);
         }
     }
     book
@@ -283,4 +284,33 @@ fn finding(left: &dyn Register, right: &dyn Register, seed: u64, book: &[u32], a
     let steps = vec![Step::new(Event::Lay(words)), Step::new(Event::Put { at, word }), step.clone()];
     let difference = differs(left, right, &steps).expect("the list shows the difference");
     Finding { seed, steps, difference }
+}
+
+#[cfg(test)]
+mod tests {
+    use super::*;
+    use crate::parts::Piece;
+
+    /// The books of the first rounds hold messages of every kind, and in them each call can be done.
+    #[test]
+    fn the_books_are_busy() {
+        for kind in 0..KINDS {
+            let mut random = Random::new(kind as u64);
+            let book = book(&mut random, kind);
+            let mut messages = Vec::new();
+            for piece in pieces(Counts::of(&book)) {
+                if let Piece::Messages { shelf, from, to } = piece {
+                    let link = link(shelf, from, to);
+                    let place = |place| (place < book[taken(link)] as usize, book[slot(link, place)]);
+                    messages.extend((0..book[held(link)] as usize).map(place));
+                }
+            }
+            for message in [(true, COPY), (false, COPY), (false, HEARTBEAT)] {
+                assert!(messages.contains(&message), "book {} has no message {:?}", kind, message);
+            }
+            for called in calls(&mut random, &book, kind).iter().take(5) {
+                assert_eq!(called.step.run(&Straight, &mut book.clone()).number, 0, "book {}: {}", kind, called.step);
+            }
+        }
+    }
 }
