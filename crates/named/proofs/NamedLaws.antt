@@ -1,8 +1,9 @@
 -- The parts that a call names: a fit book has them all fit, and what they say where every number is in range.
 -- Assumes nothing.
-use Prim.Native.Nat.{ℕ, _%_, _<_}
+use Prim.Native.Nat.{ℕ, _≤_, _%_, _<_}
 use native.Mathlib.Nat.{mod-lt}
-use mathlib.Core.Path.{_≡_, sym, _∙_, ap, ap₂}
+use native.Mathlib.Omega.{arith}
+use mathlib.Core.Path.{_≡_, refl, sym, _∙_, ap, ap₂, subst}
 use mathlib.Core.Logic.{⊎-elim}
 use mathlib.Core.List.{List}
 use mathlib.Core.Bool.{Bool, true, false, _&&_, _||_}
@@ -225,3 +226,8 @@ arrival-heads n l d s from {q} {h} {t} e p r =
     ∙ ap₂ (λ (b : Bool) (x : ℕ). b && every x (λ i. storedFit n l d (bearingOf (recordOf (slot l q i))))) (link-heads n l s from q p r) (sym r)
     ∙ and-flat (leb h linkRoom) _ _
     ∙ ap (λ (b : Bool). leb h linkRoom && b) (and-flat (leb t h) _ _)
+
+-- of a link that holds none, none arrives
+pub none-arrive : (p : ℕ → Bool) {h t : ℕ} → h ≡ 0 → t ≤ h → every t p ≡ true
+unfolding every
+none-arrive p {h} {t} e k = let z : t ≡ 0 = omega arith in subst (λ (x : ℕ). every x p ≡ true) (sym z) refl

@@ -138,6 +138,9 @@ fn arrival_fits(book: &[u32], n: Counts, d: Depot, s: Shelf, from: Depot) -> boo
     if count < taken {
         return false;
     }
+    if count == 0 {
+        return true;
+    }
     if !messages_fit(book, n, s, from, q, taken, count) {
         return false;
     }

@@ -8,7 +8,7 @@ use mathlib.Core.Path.{_≡_, refl, sym, _∙_, ap, ap₂, subst}
 use mathlib.Core.List.{List}
 use mathlib.Core.Bool.{Bool, true, false}
 use lib.Dec.{lit≤}
-use lib.ListN.{getD, set, take, drop, replicate}
+use lib.ListN.{length, getD, set, take, drop, replicate}
 use lib.Seq.{getD-take, getD-drop}
 use Rattle.loops.specs.Loops.{times}
 use Rattle.order.specs.Order.{above}
@@ -18,7 +18,7 @@ use Rattle.order.specs.Record.{recordWords, bearingOf, vectorOf, rankOf}
 use Rattle.loops.proofs.BoolLaws.{pick-true, pick-false}
 use Rattle.book.specs.Words.{part, put}
 use Rattle.book.specs.Layout.{slotRecord, slotVector, slotAt, storedAt, stableAt, heldAt, takenAt, linkOf, stored, stable, slot, held, taken, recordOf}
-use Rattle.book.proofs.WordsLaws.{part-from, part-at, part-part}
+use Rattle.book.proofs.WordsLaws.{put-itself, part-from, part-at, part-part}
 use Rattle.shelf.specs.Asks.{Sound, Ready}
 use Rattle.shelf.specs.Show.{Sweep, keptIn, closedUp, withHead, sweepOne, swept, sweptUp, shownLink}
 use Rattle.shelf.proofs.FrameLaws.{swept-kept, swept-later}
@@ -32,6 +32,15 @@ unfolding closedUp
 close-done q j g h l pa pb pm pe pr =
     pr
     ∙ ap₂ (λ (w : List ℕ) (i : ℕ). put w i (replicate (10 * g) 0)) (pm ∙ ap₂ (λ (x y : ℕ). put l x (part l y (10 * (h - (j + g))))) pb pa) pe
+
+-- where none is gone, nothing moves
+pub close-none : (q j h : ℕ) (l : List ℕ) {g : ℕ} → g ≡ 0 → slotAt q j + 10 * (h - j) ≤ length l → l ≡ closedUp q j g h l
+unfolding closedUp put replicate
+close-none q j h l e room =
+    sym
+    (ap (λ (g : ℕ). closedUp q j g h l) e
+    ∙ ap (λ (i : ℕ). put l (slotAt q j) (part l (slotAt q i) (10 * (h - i)))) (add-zero j)
+    ∙ put-itself l (slotAt q j) (10 * (h - j)) room)
 
 -- the comparison of two parts that are lent
 pub compare-lent :

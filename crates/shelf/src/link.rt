@@ -14,6 +14,9 @@ pub fn close_up(book: &mut [u32], q: Link, at: usize, gone: usize, held: usize)
     requires { ⌜ (length (now book) ≡ bookWords) × (q .0 < links) × (at + gone ≤ held) × (held ≤ linkRoom) ⌝ }
     ensures { λ r. ⌜ now (book .exit) ≡ closedUp (q .0) at gone held (now (book .entry)) ⌝ }
 {
+    if gone == 0 {
+        return;
+    }
     let behind = at + gone;
     copy_words(
         book,

@@ -1,16 +1,22 @@
 -- `shelf::link::close_up` meets its contract: the messages behind move down, then the free slots are cleared.
 -- Assumes nothing.
 use mathlib.Core.Logic.{inl}
-use Rattle.shelf.proofs.ShelfCode.{close-done}
+use Rattle.shelf.proofs.ShelfCode.{close-none, close-done}
 use borrow.Author.Needs.{needs}
 use Rattle.shelf.proofs.link.close_up.Statement.{statement}
 use Rattle.shelf.proofs.link.close_up.Tie as tie
 
+returns : tie.Need-returns
+returns c =
+    let start = c .before .before in
+    let room = start .pre in
+    close-none _ _ _ _ (c .if1 .taken) (search needs)
+
 copy-words-requires : tie.Need-copy-words-requires
 copy-words-requires c κs = (search needs, search needs, inl (search needs))
 
-returns : tie.Need-returns
-returns c =
+returns-2 : tie.Need-returns-2
+returns-2 c =
     let clear = c .before .before .clear-words in
     let copy = c .before .before .before .before .before .before .before .copy-words in
     let at3 = c .before .before .before .slot-at3 in
@@ -22,6 +28,7 @@ pub close-up-spec : {M : Type 1} → statement M
 close-up-spec =
     tie.close
     (tie.spec
+    returns
     (λ c. search needs)
     (λ c κs. search needs)
     (λ c κs. search needs)
@@ -33,4 +40,4 @@ close-up-spec =
     (λ c. search needs)
     (λ c κs. search needs)
     (λ c. search needs)
-    returns)
+    returns-2)
