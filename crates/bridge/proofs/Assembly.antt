@@ -12,7 +12,7 @@ use Rattle.loops.specs.Loops.{pick}
 use Rattle.fit.specs.Fit.{fit}
 use Rattle.shelf.proofs.FrameLaws.{pick-cases}
 use Rattle.register.specs.Promises.{after}
-use Rattle.register.specs.declared.answer.Answer as register
+use Rattle.paper.specs.declared.answer.Answer as register
 use Rattle.register.specs.Answers.{answerOf}
 use Rattle.model.specs.Parts.{Counts}
 use Rattle.paper.specs.Calls.{Call, Answer, done, refused, answerBy}

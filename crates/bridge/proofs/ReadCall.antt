@@ -19,7 +19,7 @@ use Rattle.register.specs.Answers.{tells}
 use Rattle.register.specs.Table.{readNumber}
 use Rattle.register.specs.Calls.{settledHome, readRecord, readBook}
 use Rattle.register.specs.Promises.{Read}
-use Rattle.register.specs.declared.answer.ReadAnswer.{ReadAnswer}
+use Rattle.paper.specs.declared.answer.ReadAnswer.{ReadAnswer}
 use Rattle.register.proofs.Numbers.{ReadDone, read-done}
 use Rattle.upkeep.proofs.FitKept.{read-fit}
 use Rattle.model.specs.Parts.{Version, State, setShelf, setCrew}

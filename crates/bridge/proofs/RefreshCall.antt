@@ -13,7 +13,7 @@ use Rattle.links.specs.Send as words
 use Rattle.register.specs.Table.{refreshNumber}
 use Rattle.register.specs.Calls.{refreshBook}
 use Rattle.register.specs.Promises.{Refresh}
-use Rattle.register.specs.declared.answer.Answer as register
+use Rattle.paper.specs.declared.answer.Answer as register
 use Rattle.register.proofs.Numbers.{refresh-done}
 use Rattle.upkeep.proofs.FitKept.{refresh-fit}
 use Rattle.model.specs.Parts.{Counts, Shelf, end, lowest, other}

@@ -17,7 +17,7 @@ use Rattle.fit.proofs.FitLaws.{counts-within}
 use Rattle.register.specs.Calls.{setUp}
 use Rattle.register.specs.Promises.{after, Setup}
 use Rattle.register.specs.Table as table
-use Rattle.register.specs.declared.answer.Answer as register
+use Rattle.paper.specs.declared.answer.Answer as register
 use Rattle.upkeep.proofs.FitSetup.{setup-fit}
 use Rattle.paper.specs.Calls.{done, first, answerBy}
 use Rattle.upkeep.specs.Requests as asked

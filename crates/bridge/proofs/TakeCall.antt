@@ -9,7 +9,7 @@ use Rattle.fit.specs.Fit.{fit}
 use Rattle.register.specs.Table.{takeNumber}
 use Rattle.register.specs.Calls.{takeBook}
 use Rattle.register.specs.Promises.{Take}
-use Rattle.register.specs.declared.answer.Answer as register
+use Rattle.paper.specs.declared.answer.Answer as register
 use Rattle.register.proofs.Numbers.{take-done}
 use Rattle.upkeep.proofs.FitKept.{take-fit}
 use Rattle.model.specs.Parts.{Shelf, setShelf}

@@ -13,7 +13,7 @@ use Rattle.links.specs.Send.{beat}
 use Rattle.register.specs.Table.{tickNumber}
 use Rattle.register.specs.Calls.{tickBook}
 use Rattle.register.specs.Promises.{Tick}
-use Rattle.register.specs.declared.answer.Answer as register
+use Rattle.paper.specs.declared.answer.Answer as register
 use Rattle.register.proofs.Numbers.{tick-done}
 use Rattle.upkeep.proofs.FitKept.{tick-fit}
 use Rattle.model.specs.Parts.{heartbeat, Shelf}

@@ -23,7 +23,7 @@ use Rattle.register.specs.Answers.{writes}
 use Rattle.register.specs.Table.{writeNumber}
 use Rattle.register.specs.Calls.{settledHome, newStamp, madeRecord, writtenCrew, isCurrent, writeBook}
 use Rattle.register.specs.Promises as promises
-use Rattle.register.specs.declared.answer.WriteAnswer.{WriteAnswer}
+use Rattle.paper.specs.declared.answer.WriteAnswer.{WriteAnswer}
 use Rattle.register.proofs.FitParts.{Whole, whole-open}
 use Rattle.upkeep.proofs.FitStored.{crew-set-whole, kept-in-whole}
 use Rattle.upkeep.proofs.FitKept.{settled-home-whole}

@@ -10,9 +10,9 @@ use Rattle.book.specs.declared.parts.Counts.{Counts}
 use Rattle.book.specs.Layout.{bookWords}
 use Rattle.fit.specs.Fit.{fit}
 use Rattle.register.specs.Promises as promises
-use Rattle.register.specs.declared.answer.Answer as register
-use Rattle.register.specs.declared.answer.ReadAnswer.{ReadAnswer}
-use Rattle.register.specs.declared.answer.WriteAnswer.{WriteAnswer}
+use Rattle.paper.specs.declared.answer.Answer as register
+use Rattle.paper.specs.declared.answer.ReadAnswer.{ReadAnswer}
+use Rattle.paper.specs.declared.answer.WriteAnswer.{WriteAnswer}
 use Rattle.model.specs.Parts.{fresh}
 use Rattle.paper.specs.Calls.{Call, read, write, tick, take, refresh, Answer, done, answerBy}
 use Rattle.model.specs.Calls.{setup, step}

@@ -9,7 +9,7 @@ use Rattle.book.specs.Layout.{countsOf, home, linkOf, held, taken}
 use Rattle.fit.specs.Fit.{fit}
 use Rattle.register.specs.Calls.{setUp}
 use Rattle.paper.specs.Calls.{Call}
-use Rattle.line.specs.declared.reader.Event.{Event}
+use Rattle.paper.specs.declared.request.Event.{Event}
 use Rattle.line.specs.Reading.{good, reading}
 use Rattle.events.specs.Answering as events
 use Rattle.events.specs.Answering.{lineFeed, requestOf, printed, answerTo}

@@ -16,7 +16,7 @@ ghost use mathlib.Core.Path.{_≡_};
 ghost use Prim.Native.Nat.{_≤_};
 ghost use lib.ListN.{length};
 ghost use Rattle.book.specs.Layout.{bookWords};
-ghost use Rattle.events.specs.Answering.{answerRoom};
+ghost use Rattle.reply.specs.Printed.{answerRoom};
 
 fn is_word(book: &[u32], at: usize, value: u32) -> bool {
     if at < book.len() {

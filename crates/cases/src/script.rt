@@ -1,9 +1,9 @@
 // A script: lines of the desk, each with the answer that it must get on the line after it.
 use check::same;
-use events::reply::answer_line;
+use events::answer::answer_line;
 ghost use Prim.Native.Nat.{_<_, _≤_};
 ghost use lib.ListN.{length};
-ghost use Rattle.events.specs.Answering.{answerRoom};
+ghost use Rattle.reply.specs.Printed.{answerRoom};
 
 // The place after the line that stands at `at`, its line feed passed.
 fn line_after(s: &[u8], at: usize) -> usize

@@ -7,7 +7,7 @@ use libc::STDOUT_FILENO;
 ghost use mathlib.Core.Path.{_≡_};
 ghost use Prim.Native.Nat.{_*_, _≤_};
 ghost use lib.ListN.{length, take};
-ghost use Rattle.events.specs.Answering.{answerRoom};
+ghost use Rattle.reply.specs.Printed.{answerRoom};
 ghost use Rattle.events.specs.Stream.{keptBytes, zeroBook, lineThrough, bookThrough, saysThrough};
 ghost use Rattle.line.specs.Printing.{Wrote};
 

@@ -1,4 +1,3 @@
-pub mod NumberLaws
 pub mod SayLaws
 pub mod StreamLaws
 pub mod Theorems

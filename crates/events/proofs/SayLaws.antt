@@ -1,88 +1,37 @@
--- What is said of each answer, from the promise of its call, and that no answer is longer than its room.
+-- What the reader says of a line, and that no answer is longer than its room.
 -- Assumes nothing.
-use Prim.Native.Nat.{ℕ, _+_, _-_, _≤_}
+use Prim.Native.Nat.{ℕ, _+_, _≤_}
 use native.Mathlib.Omega.{arith}
 use mathlib.Core.Path.{_≡_, refl, sym, _∙_, ap, subst}
-use mathlib.Core.Logic.{⊎-elim}
 use mathlib.Core.List.{List, [], _∷_}
 use mathlib.Core.Bool.{Bool, true, false}
 use lib.Dec.{eqb}
-use lib.ListN.{length, getD, take, drop, replicate, length-append, length-take, length-drop}
-use lib.Seq.{take-length, length-sets}
+use lib.ListN as list
+use lib.ListN.{length, replicate, length-append, length-take}
+use lib.Seq.{length-sets}
 use Rattle.loops.specs.Loops.{pick}
-use borrow.Author.Tests.{eqb-true}
-use Rattle.loops.proofs.BoolLaws.{decided, pick-false}
-use Rattle.register.specs.declared.answer.Answer.{Answer}
-use Rattle.register.specs.declared.answer.Finding.{Finding}
-use Rattle.register.specs.declared.answer.ReadAnswer.{ReadAnswer}
-use Rattle.register.specs.declared.answer.WriteAnswer.{WriteAnswer}
-use Rattle.paper.specs.Calls.{read, numberIn}
+use Rattle.order.specs.Record.{vectorOf}
 use Rattle.book.specs.Layout.{countsOf}
-use Rattle.register.specs.Answers.{cut, tells, readRefused}
-use Rattle.register.specs.Table.{readNumber}
+use Rattle.shelf.proofs.FrameLaws.{pick-cases}
+use Rattle.paper.specs.Calls.{read, write, tick, take, refresh, Answer, answerBy}
+use Rattle.paper.specs.Answers.{entriesIn}
+use Rattle.paper.specs.declared.request.Event.{Event}
+use Rattle.register.specs.Answers.{cut, written}
 use Rattle.register.specs.Calls.{readRecord}
-use Rattle.upkeep.specs.Requests.{call, replyTo}
-use Rattle.upkeep.specs.Paper.{paper, paperFound, paperRead, paperWrite, onPaper}
-use Rattle.line.specs.Answers.{numberAnswer, valueAnswer, unwrittenAnswer, stampAnswer}
-use Rattle.line.specs.Grammar.{least, Says}
+use Rattle.register.proofs.HomeLaws.{told-entries}
+use Rattle.upkeep.specs.Requests.{Request, setup, call, numberAt, doneAnswer, replyTo}
+use Rattle.calls.specs.Performed.{requestOf}
+use Rattle.line.specs.Grammar.{Says}
 use Rattle.line.specs.Reading.{Reading, bad, good, reading, lineOf}
-use Rattle.line.specs.Printing.{Room, Wrote}
-use Rattle.line.specs.declared.reader.Event.{Event}
-use Rattle.line.specs.declared.reader.Event.the-variants.{Setup, Read, Write, Tick, Take, Refresh}
+use Rattle.line.specs.Printing.{Wrote}
 use Rattle.line.specs.declared.reader.Said.the-variants.{BadLine, Names}
 use Rattle.line.specs.declared.reader.Line.{Line}
 use Rattle.line.proofs.Theorems.{read-says, most-fits, answer-says}
-use Rattle.line.proofs.PrintLaws.{room-enough, wrote-length, decimal-length, value-answer-length, unwritten-answer-length, stamp-answer-length}
-use Rattle.events.specs.Answering.{requestOf, printed, eventSays, eventBook, readingSays, readingBook, answerTo}
-
--- ---- room
-
-pub number-room : {o : List ℕ} {at : ℕ} (n : ℕ) → at + 64 ≤ length o → Room o at (numberAnswer n)
-number-room n h = room-enough _ 63 (let l = decimal-length n in omega arith) (omega arith)
-
-pub value-room : {o : List ℕ} {at : ℕ} (v d : ℕ) (vector : List ℕ) → d ≤ 4 → at + 64 ≤ length o → Room o at (valueAnswer v (take d vector))
-value-room v d vector k h =
-    room-enough _ 63 (let l = value-answer-length v (take d vector) in let m = length-take d vector in omega arith) (omega arith)
-
-pub unwritten-room : {o : List ℕ} {at : ℕ} (d : ℕ) (vector : List ℕ) → d ≤ 4 → at + 64 ≤ length o → Room o at (unwrittenAnswer (take d vector))
-unwritten-room d vector k h =
-    room-enough _ 63 (let l = unwritten-answer-length (take d vector) in let m = length-take d vector in omega arith) (omega arith)
-
-pub stamp-room : {o : List ℕ} {at : ℕ} (stamp : ℕ) (b : Bool) → at + 64 ≤ length o → Room o at (stampAnswer stamp b)
-stamp-room stamp b h = room-enough _ 63 (let l = stamp-answer-length stamp b in omega arith) (omega arith)
-
--- ---- what is said, by the promise of the request
-
--- the number of an answer that is done or refused is all that is said of it
-pub plain-says : (a : Answer) → numberAnswer (numberIn (paper a)) ≡ printed (paper a)
-unfolding paper numberIn printed
-plain-says Answer.Done = refl
-plain-says (Answer.Refused r) = refl
-
--- of a read that is refused no entry is said, so only where it is done the depots matter
-pub found-says :
-    (l : List ℕ) (c k d : ℕ) (a : ReadAnswer) → (readNumber l c k ≡ 0 → d ≡ countsOf l .depots) →
-    a ≡ pick (eqb (readNumber l c k) 0) (tells (countsOf l .depots) (readRecord l c k)) (readRefused (readNumber l c k)) →
-    printed (paperFound (a .finding) (take d (a .vector))) ≡ printed (onPaper (countsOf l .depots) (replyTo l (call (read c k))))
-unfolding replyTo onPaper readRefused paperRead paperFound
-found-says l c k d a same e =
-    ap said e
-    ∙ ⊎-elim
-    (λ (z : eqb (readNumber l c k) 0 ≡ true). ap (λ (m : ℕ). printed (paperFound (it .finding) (take m (it .vector)))) (same (eqb-true (readNumber l c k) 0 z)))
-    (λ (z : eqb (readNumber l c k) 0 ≡ false). ap said (pick-false _ _ z) ∙ sym (ap (λ (x : ReadAnswer). printed (paperRead (countsOf l .depots) x)) (pick-false _ _ z)))
-    (decided (eqb (readNumber l c k) 0))
-  where
-    said : ReadAnswer → List ℕ
-    said x = printed (paperFound (x .finding) (take d (x .vector)))
-
-    it : ReadAnswer
-    it = pick (eqb (readNumber l c k) 0) (tells (countsOf l .depots) (readRecord l c k)) (readRefused (readNumber l c k))
+use Rattle.line.proofs.PrintLaws.{wrote-length, decimal-length}
+use Rattle.reply.proofs.RoomLaws.{printed-length}
+use Rattle.events.specs.Answering.{eventSays, readingSays, readingBook, answerTo}
 
 -- ---- the numbers of a line
-
--- all that follows the first k
-pub rest-of : (ns : List ℕ) (k : ℕ) → take (length ns - k) (drop k ns) ≡ drop k ns
-rest-of ns k = rw (← length-drop k ns) (take-length (drop k ns))
 
 bad-only : (r : Reading) → lineOf r .said ≡ BadLine → r ≡ bad
 unfolding lineOf
@@ -105,8 +54,8 @@ module _ {t : Line} (s : List ℕ) (p : t ≡ lineOf (reading s)) where
   told-bad h = bad-only (reading s) (sym (ap (λ (x : Line). x .said) p) ∙ h)
 
   -- one that names an event says it with the numbers that count
-  pub told-event : (e : Event) → t .said ≡ Names e → Says s e (take (t .count) (t .numbers))
-  told-event e h = subst (λ (x : Line). x .said ≡ Names e → Says s e (take (x .count) (x .numbers))) (sym p) (answer-says s e) h
+  pub told-event : (e : Event) → t .said ≡ Names e → Says s e (list.take (t .count) (t .numbers))
+  told-event e h = subst (λ (x : Line). x .said ≡ Names e → Says s e (list.take (x .count) (x .numbers))) (sym p) (answer-says s e) h
 
   pub told-count : t .count ≤ 20
   told-count = subst (λ (x : Line). x .count ≤ 20) (sym p) (most-numbers s (reading s) refl)
@@ -114,18 +63,10 @@ module _ {t : Line} (s : List ℕ) (p : t ≡ lineOf (reading s)) where
   pub told-room : length (t .numbers) ≡ 20
   told-room = ap (λ (x : Line). length (x .numbers)) p ∙ numbers-room (reading s)
 
-  pub told-part : t .count ≡ length (take (t .count) (t .numbers))
+  pub told-part : t .count ≡ length (list.take (t .count) (t .numbers))
   told-part = let h = told-count in let k = told-room in rw (length-take (t .count) (t .numbers)) (omega arith)
 
--- ---- an event, known by its case
-
-pub enough-as : {e e′ : Event} {n : ℕ} → e ≡ e′ → least e ≤ n → least e′ ≤ n
-enough-as {n} p h = subst (λ (x : Event). least x ≤ n) p h
-
-pub answered-as :
-    {e e′ : Event} (l ns : List ℕ) {l′ o o′ : List ℕ} {at r : ℕ} → e ≡ e′ → (l′ ≡ eventBook l e′ ns) × Wrote o at (eventSays l e′ ns) o′ r →
-    (l′ ≡ eventBook l e ns) × Wrote o at (eventSays l e ns) o′ r
-answered-as l ns {l′} {o} {o′} {at} {r} p w = subst (λ (x : Event). (l′ ≡ eventBook l x ns) × Wrote o at (eventSays l x ns) o′ r) (sym p) w
+-- ---- what a line says, known by its case
 
 pub answered-reading :
     {q q′ : Reading} (l : List ℕ) {l′ o o′ : List ℕ} {at r : ℕ} → q ≡ q′ → (l′ ≡ readingBook l q′) × Wrote o at (readingSays l q′) o′ r →
@@ -134,48 +75,34 @@ answered-reading l {l′} {o} {o′} {at} {r} p w = subst (λ (x : Reading). (l�
 
 -- ---- no answer is longer than its room
 
-number-length : (n : ℕ) → length (numberAnswer n) ≤ 63
-number-length n = let h = decimal-length n in omega arith
+written-few : (stamp : ℕ) (b : Bool) → length (entriesIn (written stamp b)) ≤ 4
+unfolding written pick entriesIn
+written-few stamp true = omega arith
+written-few stamp false = omega arith
 
-plain-length : (a : Answer) → length (printed (paper a)) ≤ 63
-unfolding paper printed
-plain-length Answer.Done = number-length 0
-plain-length (Answer.Refused r) = number-length _
+-- a read tells at most four entries, and nothing else tells any
+done-few : (l : List ℕ) (r : Request) → length (entriesIn (doneAnswer l r)) ≤ 4
+unfolding doneAnswer entriesIn cut
+done-few l (setup n homes) = omega arith
+done-few l (call (read c k)) =
+    let n = countsOf l .depots in
+    let u = vectorOf (readRecord l c k) in
+    let part = length-take n (cut n u) in
+    let same = ap (λ (v : List ℕ). length v) (told-entries n (readRecord l c k)) in
+    omega arith
+done-few l (call (write c k value)) = written-few _ _
+done-few l (call (tick d s)) = omega arith
+done-few l (call (take d s from)) = omega arith
+done-few l (call (refresh d s)) = omega arith
 
--- with at most four entries
-found-length : (f : Finding) (entries : List ℕ) → length entries ≤ 4 → length (printed (paperFound f entries)) ≤ 63
-unfolding paperFound printed
-found-length (Finding.Value v) entries h = let w = value-answer-length v entries in omega arith
-found-length Finding.Unwritten entries h = let w = unwritten-answer-length entries in omega arith
-found-length (Finding.Refused r) entries h = number-length _
-
-written-length : (a : WriteAnswer) → length (printed (paperWrite a)) ≤ 63
-unfolding paperWrite printed
-written-length (WriteAnswer.Current stamp) = let h = stamp-answer-length stamp true in omega arith
-written-length (WriteAnswer.Superseded stamp) = let h = stamp-answer-length stamp false in omega arith
-written-length (WriteAnswer.Refused r) = number-length _
-
-four-entries : (b : Bool) (k n : ℕ) (r : List ℕ) → length (pick b (tells n r) (readRefused k) .vector) ≤ 4
-unfolding pick tells readRefused cut
-four-entries true k n r = omega arith
-four-entries false k n r = omega arith
-
-event-length : (l : List ℕ) (e : Event) (ns : List ℕ) → length (eventSays l e ns) ≤ 63
-unfolding eventSays requestOf replyTo onPaper paperRead
-event-length l Setup ns = plain-length _
-event-length l Read ns =
-    let b = eqb (readNumber l (getD ns 0 0) (getD ns 1 0)) 0 in
-    let h = four-entries b (readNumber l (getD ns 0 0) (getD ns 1 0)) (countsOf l .depots) (readRecord l (getD ns 0 0) (getD ns 1 0)) in
-    found-length _ _ (rw (length-take (countsOf l .depots) _) (omega arith))
-event-length l Write ns = written-length _
-event-length l Tick ns = plain-length _
-event-length l Take ns = plain-length _
-event-length l Refresh ns = plain-length _
+reply-few : (l : List ℕ) (r : Request) → length (entriesIn (replyTo l r)) ≤ 4
+unfolding replyTo answerBy entriesIn
+reply-few l r = pick-cases (λ (a : Answer). length (entriesIn a) ≤ 4) (eqb (numberAt l r) 0) _ _ (λ z. done-few l r) λ z. omega arith
 
 pub reading-length : (l : List ℕ) (r : Reading) → length (readingSays l r) ≤ 63
-unfolding readingSays
-reading-length l bad = number-length 13
-reading-length l (good e ns) = event-length l e ns
+unfolding readingSays eventSays
+reading-length l bad = let h = decimal-length 13 in omega arith
+reading-length l (good e ns) = printed-length _ (reply-few l (requestOf e ns))
 
 pub answer-length : (l s : List ℕ) → length (answerTo l s) ≤ 64
 unfolding answerTo

@@ -1,4 +1,3 @@
 // The desk's events: one line to one answer, and a whole input to its answers.
-pub mod numbers;
-pub mod reply;
+pub mod answer;
 pub mod stream;

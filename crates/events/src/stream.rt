@@ -1,11 +1,11 @@
 // The desk's input as it arrives: any bytes, in pieces cut anywhere. The line so far is kept in a buffer that is lent.
-use crate::reply::LINE_FEED;
-use crate::reply::answer_line;
+use crate::answer::LINE_FEED;
+use crate::answer::answer_line;
 ghost use mathlib.Core.Path.{_≡_};
 ghost use Prim.Native.Nat.{_+_, _*_, _≤_};
 ghost use lib.ListN.{length, take};
 ghost use Rattle.line.specs.Printing.{Wrote};
-ghost use Rattle.events.specs.Answering.{answerRoom};
+ghost use Rattle.reply.specs.Printed.{answerRoom};
 ghost use Rattle.events.specs.Stream.{keptBytes, lineAt, bookAt, saysAt, lineThrough, bookThrough, saysThrough, bookLast, saysLast};
 
 // How many bytes of a line are kept: one more than a line has at most.

@@ -10,7 +10,7 @@ use Rattle.line.specs.Number.{spelled, decimal, isDigit, run, valueFrom,
 use Rattle.line.specs.Grammar.{spaced}
 use Rattle.line.specs.Answers.{numberAnswer, valueAnswer, unwrittenAnswer, stampAnswer}
 use Rattle.line.specs.Reading.{bad, good, eventOf, before, numbersIn, counted, named, headed, reading}
-use Rattle.line.specs.declared.reader.Event.the-variants.{Setup, Read, Write, Tick, Take, Refresh}
+use Rattle.paper.specs.declared.request.Event.the-variants.{Setup, Read, Write, Tick, Take, Refresh}
 
 -- the listing's first line
 listing-setup : reading (83 ∷ 32 ∷ 50 ∷ 32 ∷ 50 ∷ 32 ∷ 52 ∷ 32 ∷ 50 ∷ 32 ∷ 48 ∷ 32 ∷ 49 ∷ []) ≡ good Setup (2 ∷ 2 ∷ 4 ∷ 2 ∷ 0 ∷ 1 ∷ [])

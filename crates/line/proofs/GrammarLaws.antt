@@ -15,8 +15,8 @@ use Rattle.loops.proofs.BoolLaws.{decided, and-left, and-right, and-intro, eq-o
 use Rattle.line.specs.Number.{decimal, run, valueFrom, isNumber}
 use Rattle.line.specs.Grammar.{letter, spaced, inRange}
 use Rattle.line.specs.Reading.{eventOf, before, numbersIn}
-use Rattle.line.specs.declared.reader.Event.{Event}
-use Rattle.line.specs.declared.reader.Event.the-variants.{Setup, Read, Write, Tick, Take, Refresh}
+use Rattle.paper.specs.declared.request.Event.{Event}
+use Rattle.paper.specs.declared.request.Event.the-variants.{Setup, Read, Write, Tick, Take, Refresh}
 use Rattle.line.proofs.DigitLaws.{digit-low, run-other}
 use Rattle.line.proofs.NumberLaws.{number-parts}
 use Rattle.line.proofs.ReadingLaws.{numbers-right, numbers-wrong, numbers-nothing}

@@ -11,8 +11,8 @@ use Rattle.loops.specs.Loops.{pick}
 use Rattle.loops.proofs.BoolLaws.{pick-true, pick-false}
 use Rattle.line.specs.Grammar.{letter, least, most}
 use Rattle.line.specs.Reading.{bad, eventOf, numbersIn, counted, named, headed, reading}
-use Rattle.line.specs.declared.reader.Event.{Event}
-use Rattle.line.specs.declared.reader.Event.the-variants.{Setup, Read, Write, Tick, Take, Refresh}
+use Rattle.paper.specs.declared.request.Event.{Event}
+use Rattle.paper.specs.declared.request.Event.the-variants.{Setup, Read, Write, Tick, Take, Refresh}
 
 pub event-letter : (e : Event) → eventOf (letter e) ≡ some e
 unfolding eventOf pick

@@ -16,7 +16,7 @@ use Rattle.loops.specs.Loops.{pick}
 use Rattle.loops.proofs.BoolLaws.{and-intro, pick-true, pick-false}
 use Rattle.line.specs.Number.{run, valueFrom, isNumber}
 use Rattle.line.specs.Reading.{bad, good, before, numbersIn, counted, badLine, lineOf}
-use Rattle.line.specs.declared.reader.Event.{Event}
+use Rattle.paper.specs.declared.request.Event.{Event}
 use Rattle.line.specs.declared.reader.Said.the-variants.{Names}
 use Rattle.line.specs.declared.reader.Line.{Line}
 use Rattle.line.proofs.DigitLaws.{from-here}

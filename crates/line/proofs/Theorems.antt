@@ -17,8 +17,8 @@ use Rattle.line.specs.Number.{decimal, run, valueFrom, isNumber, mostNum
 use Rattle.line.specs.Grammar.{letter, least, most, mostBytes, printed, inRange, Says}
 use Rattle.line.specs.Reading.{Reading, bad, good, eventOf, numbersIn, counted, named, headed, reading, mostNumbers, lineOf}
 use Rattle.line.specs.Printing.{Room, Wrote}
-use Rattle.line.specs.declared.reader.Event.{Event}
-use Rattle.line.specs.declared.reader.Event.the-variants.{Setup, Read, Write, Tick, Take, Refresh}
+use Rattle.paper.specs.declared.request.Event.{Event}
+use Rattle.paper.specs.declared.request.Event.the-variants.{Setup, Read, Write, Tick, Take, Refresh}
 use Rattle.line.specs.declared.reader.Said.the-variants.{Names}
 use Rattle.line.proofs.NumberLaws.{number-parts}
 use Rattle.line.proofs.LineLaws.{reading-long, reading-short, reading-event}

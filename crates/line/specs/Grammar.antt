@@ -7,8 +7,8 @@ use mathlib.Core.Bool.{Bool, true, _&&_}
 use lib.Dec.{leb}
 use lib.ListN.{length}
 use Rattle.line.specs.Number.{decimal, mostNumber}
-use Rattle.line.specs.declared.reader.Event.{Event}
-use Rattle.line.specs.declared.reader.Event.the-variants.{Setup, Read, Write, Tick, Take, Refresh}
+use Rattle.paper.specs.declared.request.Event.{Event}
+use Rattle.paper.specs.declared.request.Event.the-variants.{Setup, Read, Write, Tick, Take, Refresh}
 
 -- the letter of an event: S R W K T F
 abbrev pub letter : Event → ℕ

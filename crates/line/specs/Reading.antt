@@ -10,8 +10,8 @@ use lib.Seq.{sets}
 use Rattle.loops.specs.Loops.{pick}
 use Rattle.line.specs.Number.{run, valueFrom, isNumber}
 use Rattle.line.specs.Grammar.{letter, least, most, mostBytes, spaceByte}
-use Rattle.line.specs.declared.reader.Event.{Event}
-use Rattle.line.specs.declared.reader.Event.the-variants.{Setup, Read, Write, Tick, Take, Refresh}
+use Rattle.paper.specs.declared.request.Event.{Event}
+use Rattle.paper.specs.declared.request.Event.the-variants.{Setup, Read, Write, Tick, Take, Refresh}
 use Rattle.line.specs.declared.reader.Said.the-variants.{BadLine, Names}
 use Rattle.line.specs.declared.reader.Line.{Line}
 

@@ -1,5 +1,5 @@
 // The printer: numbers and runs of numbers, into an output that is lent. Each function says the place after what it wrote.
-use crate::reader::Event;
+use paper::request::Event;
 ghost use mathlib.Core.Path.{_≡_};
 ghost use mathlib.Core.List.{_∷_};
 ghost use lib.ListN.{take, length};

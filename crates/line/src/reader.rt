@@ -1,6 +1,7 @@
 // The line reader: the first byte names the event, and its numbers follow, each after exactly one space.
 use crate::digits::Number;
 use crate::digits::read_number;
+use paper::request::Event;
 ghost use mathlib.Core.Path.{_≡_};
 ghost use Prim.Native.Nat.{_≤_};
 ghost use lib.ListN.{drop};
@@ -10,15 +11,6 @@ ghost use Rattle.line.specs.Reading.{mostNumbers, numbersIn, counted, re
 pub const MOST_BYTES: usize = 120;
 
 pub const MOST_NUMBERS: usize = 20;
-
-pub enum Event {
-    Setup,
-    Read,
-    Write,
-    Tick,
-    Take,
-    Refresh,
-}
 
 // Whether a line is bad, or the event that it names.
 pub enum Said {

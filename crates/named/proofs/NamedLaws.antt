@@ -16,7 +16,7 @@ use Rattle.loops.proofs.BoolLaws.{decided, and-left, and-right, and-intro, and-
 use Rattle.loops.proofs.LoopLaws.{every-at, every-intro}
 use Rattle.order.proofs.VectorLaws.{covered-at}
 use Rattle.book.specs.declared.parts.Counts.{Counts}
-use Rattle.book.specs.Layout.{bookWords, end, linkRoom, countsOf, home, seen, linkOf, held, taken, slot, recordOf}
+use Rattle.book.specs.Layout.{bookWords, linkRoom, countsOf, home, seen, linkOf, held, taken, slot, recordOf}
 use Rattle.fit.specs.Fit.{countsFit, Within, homeFit, crewFit, clockFit, stableFit, seenFit, shelfFit, othersInRange, headFit, messagesFit, linkFit, storedFit}
 use Rattle.fit.specs.Fit.{homesFit, crewsFit, shelvesFit, linksFit, storesFit, partsFit, fit}
 use Rattle.named.specs.Named.{headsOutFit, placesFit, arrivalFit, showFit, tickParts, takeParts, refreshParts, homeParts, readParts, writeParts}

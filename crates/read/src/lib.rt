@@ -11,9 +11,9 @@ use order::record::VALUE;
 use order::record::VECTOR;
 use order::vector::is_zero;
 use order::vector::merge;
-use register::answer::Finding;
-use register::answer::ReadAnswer;
-use register::answer::Refusal;
+use paper::answer::Finding;
+use paper::answer::ReadAnswer;
+use paper::answer::Refusal;
 use register::check::AskCheck;
 use register::check::check_asked;
 use register::home::cut_vector;
@@ -25,38 +25,44 @@ ghost use mathlib.Core.Bool.{true};
 ghost use mathlib.Core.List.{[], _∷_};
 ghost use Prim.Native.Nat.{_<_, _≤_};
 ghost use lib.ListN.{length};
-ghost use Rattle.order.specs.Record.{mostDepots, recordWords};
+ghost use Rattle.order.specs.Record.{mostDepots, recordWords, vectorOf};
+ghost use Rattle.paper.specs.Calls.{reads};
 ghost use Rattle.book.specs.Layout.{countsOf};
 ghost use Rattle.named.specs.Named.{baseFit};
-ghost use Rattle.register.specs.declared.answer.Finding.{Finding};
-ghost use Rattle.register.specs.Answers.{tells};
+ghost use Rattle.paper.specs.declared.answer.Finding.{Finding};
+ghost use Rattle.paper.specs.Answers.{paperRead};
+ghost use Rattle.register.specs.Answers.{cut, told};
 ghost use Rattle.register.specs.Promises.{Read};
 
 // What a read tells of a stored record.
 fn tell(version: &[u32], n: usize) -> ReadAnswer
     requires { ⌜ (length (now version) ≡ recordWords) × (n ≤ mostDepots) ⌝ }
-    ensures { λ r. ⌜ r ≡ tells n (now (version .entry)) ⌝ }
+    ensures { λ r. ⌜ paperRead r ≡ reads (told n (now (version .entry))) ⌝ }
+    ensures { λ r. ⌜ (r .vector ≡ cut n (vectorOf (now (version .entry)))) × (r .depots ≡ n) ⌝ }
 {
     let vector = cut_vector(&version[VECTOR..RECORD_WORDS], n);
     if is_zero(&version[VECTOR..RECORD_WORDS], n) {
         return ReadAnswer {
             finding: Finding::Unwritten,
             vector: vector,
+            depots: n,
         };
     }
     ReadAnswer {
         finding: Finding::Value(version[VALUE]),
         vector: vector,
+        depots: n,
     }
 }
 
 // A refusal carries nothing but its number.
 fn refused(r: Refusal) -> ReadAnswer
-    ensures { λ a. ⌜ a ≡ record { finding = Finding.Refused r; vector = 0 ∷ 0 ∷ 0 ∷ 0 ∷ [] } ⌝ }
+    ensures { λ a. ⌜ a ≡ record { finding = Finding.Refused r; vector = 0 ∷ 0 ∷ 0 ∷ 0 ∷ []; depots = 0 } ⌝ }
 {
     ReadAnswer {
         finding: Finding::Refused(r),
         vector: [0, 0, 0, 0],
+        depots: 0,
     }
 }
 

@@ -1,115 +1,99 @@
--- From the number of a call to its answer and its book: what a refusal and a done call come to, and what the shared checks tell.
+-- From the number of a call to its answer on paper and its book: what a refusal and a done call come to, and what the shared checks tell.
 -- Assumes nothing.
-use Prim.Native.Nat.{ℕ, _<_}
-use native.Mathlib.Omega.{arith}
-use mathlib.Core.Path.{_≡_, sym, _∙_, ap}
+use Prim.Native.Nat.{ℕ}
+use mathlib.Core.Path.{_≡_, refl, sym, _∙_, ap, subst}
 use mathlib.Core.List.{List, [], _∷_}
 use mathlib.Core.Bool.{false}
 use lib.Dec.{eqb}
-use borrow.Author.Tests.{eqb-true, eq-eqb, ne-eqb}
-use Rattle.loops.specs.Loops.{pick}
+use borrow.Author.Tests.{eq-eqb}
 use Rattle.loops.proofs.BoolLaws.{pick-true, pick-false}
+use Rattle.paper.specs.Calls.{Answer, refused, answerBy}
+use Rattle.paper.specs.declared.answer.Refusal.{Refusal}
+use Rattle.paper.specs.declared.answer.Refusal.the-variants.{BadBook, BadDepot, BadShelf, BadKey, BadCrew, SameDepot, EmptyLink, Wait, LinkFull, ClockAtEnd, BadCounts}
 use Rattle.book.specs.declared.numbers.Depot.{Depot}
 use Rattle.book.specs.declared.numbers.Shelf.{Shelf}
 use Rattle.book.specs.declared.numbers.Bearing.{Bearing}
 use Rattle.book.specs.declared.numbers.Crew.{Crew}
-use Rattle.register.specs.declared.answer.Refusal.{Refusal}
-use Rattle.register.specs.declared.answer.Answer.{Answer}
-use Rattle.register.specs.declared.answer.Finding.{Finding}
-use Rattle.register.specs.declared.answer.ReadAnswer.{ReadAnswer}
-use Rattle.register.specs.declared.answer.WriteAnswer.{WriteAnswer}
+use Rattle.paper.specs.declared.answer.Finding.{Finding}
+use Rattle.paper.specs.declared.answer.ReadAnswer.{ReadAnswer}
+use Rattle.paper.specs.Answers.{numberOf, paperFound, paperRead, entriesIn, padded, Holds}
 use Rattle.register.specs.declared.check.PlaceCheck.{PlaceCheck}
 use Rattle.register.specs.declared.check.AskCheck.{AskCheck}
 use Rattle.register.specs.declared.check.LinkCheck.{LinkCheck}
-use Rattle.register.specs.Answers.{refusalOf, answerOf, readRefused, writeRefused}
-use Rattle.register.specs.Checks.{placeOfNumber, askedOf, linkOfNumber}
+use Rattle.register.specs.Checks.{PlaceChecked, AskChecked, LinkChecked}
 use Rattle.register.specs.Promises.{after}
-use Rattle.register.proofs.TableLaws.{chose-first, chose-second}
 
 -- ---- a refusal, and done
 
-pub not-done : {n : ℕ} (m : ℕ) → n ≡ m → 0 < m → eqb n 0 ≡ false
-not-done {n} m e h = ne-eqb n 0 λ z. omega arith
+-- no refusal has the number of what is done
+pub refusal-counts : (r : Refusal) → eqb (numberOf r) 0 ≡ false
+unfolding numberOf
+refusal-counts BadBook = refl
+refusal-counts BadDepot = refl
+refusal-counts BadShelf = refl
+refusal-counts BadKey = refl
+refusal-counts BadCrew = refl
+refusal-counts SameDepot = refl
+refusal-counts EmptyLink = refl
+refusal-counts Wait = refl
+refusal-counts LinkFull = refl
+refusal-counts ClockAtEnd = refl
+refusal-counts BadCounts = refl
 
-pub answer-refused : (n : ℕ) {r : Refusal} → eqb n 0 ≡ false → refusalOf n ≡ r → Answer.Refused r ≡ answerOf n
-unfolding answerOf
-answer-refused n e q = ap Answer.Refused (sym q) ∙ sym (pick-false _ _ e)
+pub not-done : {n : ℕ} (r : Refusal) → n ≡ numberOf r → eqb n 0 ≡ false
+not-done r e = ap (λ (x : ℕ). eqb x 0) e ∙ refusal-counts r
 
-pub answer-done : (n : ℕ) → n ≡ 0 → Answer.Done ≡ answerOf n
-unfolding answerOf
-answer-done n e = sym (pick-true _ _ (eq-eqb n 0 e))
+-- refused, with this number
+pub by-refusal : {n : ℕ} (r : Refusal) (a : Answer) → n ≡ numberOf r → refused (numberOf r) ≡ answerBy n a
+unfolding answerBy
+by-refusal r a e = ap refused (sym e) ∙ sym (pick-false _ _ (not-done r e))
 
-pub after-refused : (n : ℕ) (changed l : List ℕ) → eqb n 0 ≡ false → l ≡ after n changed l
+pub by-done : {n : ℕ} {a : Answer} → n ≡ 0 → a ≡ answerBy n a
+unfolding answerBy
+by-done {n} e = sym (pick-true _ _ (eq-eqb n 0 e))
+
+pub after-refused : {n : ℕ} (r : Refusal) (changed l : List ℕ) → n ≡ numberOf r → l ≡ after n changed l
 unfolding after
-after-refused n changed l e = sym (pick-false _ _ e)
+after-refused r changed l e = sym (pick-false _ _ (not-done r e))
 
-pub after-done : (n : ℕ) (changed l : List ℕ) → n ≡ 0 → changed ≡ after n changed l
+pub after-done : {n : ℕ} (changed l : List ℕ) → n ≡ 0 → changed ≡ after n changed l
 unfolding after
-after-done n changed l e = sym (pick-true _ _ (eq-eqb n 0 e))
+after-done {n} changed l e = sym (pick-true _ _ (eq-eqb n 0 e))
 
--- a refusal with a number that is known
-pub refused-answer : (n m : ℕ) {r : Refusal} → n ≡ m → eqb m 0 ≡ false → refusalOf m ≡ r → Answer.Refused r ≡ answerOf n
-refused-answer n m e h q = answer-refused n (ap (λ (x : ℕ). eqb x 0) e ∙ h) (ap refusalOf e ∙ q)
-
-pub refused-write :
-    (n m : ℕ) {r : Refusal} (done : WriteAnswer) → n ≡ m → eqb m 0 ≡ false → refusalOf m ≡ r → WriteAnswer.Refused r ≡ pick (eqb n 0) done (writeRefused n)
-unfolding writeRefused
-refused-write n m done e h q = ap WriteAnswer.Refused (sym (ap refusalOf e ∙ q)) ∙ sym (pick-false _ _ (ap (λ (x : ℕ). eqb x 0) e ∙ h))
-
-pub refused-read :
-    (n m : ℕ) {r : Refusal} (done : ReadAnswer) → n ≡ m → eqb m 0 ≡ false → refusalOf m ≡ r →
-    record { finding = Finding.Refused r; vector = 0 ∷ 0 ∷ 0 ∷ 0 ∷ [] } ≡ pick (eqb n 0) done (readRefused n)
-unfolding readRefused
-refused-read n m done e h q =
-    (λ z. record { finding = Finding.Refused (sym (ap refusalOf e ∙ q) z); vector = 0 ∷ 0 ∷ 0 ∷ 0 ∷ [] }) ∙ sym (pick-false _ _ (ap (λ (x : ℕ). eqb x 0) e ∙ h))
-
-pub refused-book : (n m : ℕ) (changed l : List ℕ) → n ≡ m → eqb m 0 ≡ false → l ≡ after n changed l
-refused-book n m changed l e h = after-refused n changed l (ap (λ (x : ℕ). eqb x 0) e ∙ h)
+-- a read that is refused tells no entry
+pub read-refused :
+    {n : ℕ} (r : Refusal) {a : ReadAnswer} (b : Answer) → a ≡ record { finding = Finding.Refused r; vector = 0 ∷ 0 ∷ 0 ∷ 0 ∷ []; depots = 0 } → n ≡ numberOf r →
+    (paperRead a ≡ answerBy n b) × Holds (paperRead a) (a .vector) (a .depots)
+unfolding paperRead paperFound entriesIn padded
+read-refused {n} r b q e =
+    subst (λ (x : ReadAnswer). (paperRead x ≡ answerBy n b) × Holds (paperRead x) (x .vector) (x .depots)) (sym q) (by-refusal r b e, record { vector = refl; count = refl })
 
 -- ---- what the shared checks tell
 
-pub bad-place : (n d s : ℕ) {x : PlaceCheck} (r : Refusal) → x ≡ placeOfNumber n d s → x ≡ PlaceCheck.Bad r → (eqb n 0 ≡ false) × (refusalOf n ≡ r)
-unfolding placeOfNumber
-bad-place n d s r p q =
-    let h = chose-second (PlaceCheck.Good (record { 0 = d }) (record { 0 = s })) (PlaceCheck.Bad (refusalOf n)) (PlaceCheck.Bad r) (λ e. let z : _≡_ {A = ℕ} 0 1 = cc in omega arith) (sym p ∙ q) in
-    let e = h .1 in
-    (h .0, cc)
+pub bad-place : (n d s : ℕ) {x : PlaceCheck} (r : Refusal) → PlaceChecked n d s x → x ≡ PlaceCheck.Bad r → n ≡ numberOf r
+unfolding PlaceChecked
+bad-place n d s r p q = subst (PlaceChecked n d s) q p
 
-pub good-place : (n d s : ℕ) {x : PlaceCheck} (a : Depot) (b : Shelf) → x ≡ placeOfNumber n d s → x ≡ PlaceCheck.Good a b → (n ≡ 0) × (record { 0 = d } ≡ a) × (record { 0 = s } ≡ b)
-unfolding placeOfNumber
-good-place n d s a b p q =
-    let h = chose-first (PlaceCheck.Good (record { 0 = d }) (record { 0 = s })) (PlaceCheck.Bad (refusalOf n)) (PlaceCheck.Good a b) (λ e. let z : _≡_ {A = ℕ} 0 1 = cc in omega arith) (sym p ∙ q) in
-    let e = h .1 in
-    (eqb-true n 0 (h .0), cc, cc)
+pub good-place :
+    (n d s : ℕ) {x : PlaceCheck} (a : Depot) (b : Shelf) → PlaceChecked n d s x → x ≡ PlaceCheck.Good a b → (n ≡ 0) × (record { 0 = d } ≡ a) × (record { 0 = s } ≡ b)
+unfolding PlaceChecked
+good-place n d s a b p q = subst (PlaceChecked n d s) q p
 
-pub bad-asked : (n c k : ℕ) {x : AskCheck} (r : Refusal) → x ≡ askedOf n c k → x ≡ AskCheck.Bad r → (eqb n 0 ≡ false) × (refusalOf n ≡ r)
-unfolding askedOf
-bad-asked n c k r p q =
-    let h = chose-second (AskCheck.Good (record { 0 = c }) (record { 0 = k })) (AskCheck.Bad (refusalOf n)) (AskCheck.Bad r) (λ e. let z : _≡_ {A = ℕ} 0 1 = cc in omega arith) (sym p ∙ q) in
-    let e = h .1 in
-    (h .0, cc)
+pub bad-asked : (n c k : ℕ) {x : AskCheck} (r : Refusal) → AskChecked n c k x → x ≡ AskCheck.Bad r → n ≡ numberOf r
+unfolding AskChecked
+bad-asked n c k r p q = subst (AskChecked n c k) q p
 
-pub good-asked : (n c k : ℕ) {x : AskCheck} (a : Crew) (b : Bearing) → x ≡ askedOf n c k → x ≡ AskCheck.Good a b → (n ≡ 0) × (record { 0 = c } ≡ a) × (record { 0 = k } ≡ b)
-unfolding askedOf
-good-asked n c k a b p q =
-    let h = chose-first (AskCheck.Good (record { 0 = c }) (record { 0 = k })) (AskCheck.Bad (refusalOf n)) (AskCheck.Good a b) (λ e. let z : _≡_ {A = ℕ} 0 1 = cc in omega arith) (sym p ∙ q) in
-    let e = h .1 in
-    (eqb-true n 0 (h .0), cc, cc)
+pub good-asked :
+    (n c k : ℕ) {x : AskCheck} (a : Crew) (b : Bearing) → AskChecked n c k x → x ≡ AskCheck.Good a b → (n ≡ 0) × (record { 0 = c } ≡ a) × (record { 0 = k } ≡ b)
+unfolding AskChecked
+good-asked n c k a b p q = subst (AskChecked n c k) q p
 
-pub bad-link : (n d s o : ℕ) {x : LinkCheck} (r : Refusal) → x ≡ linkOfNumber n d s o → x ≡ LinkCheck.Bad r → (eqb n 0 ≡ false) × (refusalOf n ≡ r)
-unfolding linkOfNumber
-bad-link n d s o r p q =
-    let h = chose-second (LinkCheck.Good (record { 0 = d }) (record { 0 = s }) (record { 0 = o })) (LinkCheck.Bad (refusalOf n)) (LinkCheck.Bad r)
-    (λ e. let z : _≡_ {A = ℕ} 0 1 = cc in omega arith) (sym p ∙ q) in
-    let e = h .1 in
-    (h .0, cc)
+pub bad-link : (n d s o : ℕ) {x : LinkCheck} (r : Refusal) → LinkChecked n d s o x → x ≡ LinkCheck.Bad r → n ≡ numberOf r
+unfolding LinkChecked
+bad-link n d s o r p q = subst (LinkChecked n d s o) q p
 
 pub good-link :
-    (n d s o : ℕ) {x : LinkCheck} (a : Depot) (b : Shelf) (c : Depot) → x ≡ linkOfNumber n d s o → x ≡ LinkCheck.Good a b c →
-    (n ≡ 0) × (record { 0 = d } ≡ a) × (record { 0 = s } ≡ b) × (record { 0 = o } ≡ c)
-unfolding linkOfNumber
-good-link n d s o a b c p q =
-    let h = chose-first (LinkCheck.Good (record { 0 = d }) (record { 0 = s }) (record { 0 = o })) (LinkCheck.Bad (refusalOf n)) (LinkCheck.Good a b c)
-    (λ e. let z : _≡_ {A = ℕ} 0 1 = cc in omega arith) (sym p ∙ q) in
-    let e = h .1 in
-    (eqb-true n 0 (h .0), cc, cc, cc)
+    (n d s o : ℕ) {x : LinkCheck} (a : Depot) (b : Shelf) (e : Depot) → LinkChecked n d s o x → x ≡ LinkCheck.Good a b e →
+    (n ≡ 0) × (record { 0 = d } ≡ a) × (record { 0 = s } ≡ b) × (record { 0 = o } ≡ e)
+unfolding LinkChecked
+good-link n d s o a b e p q = subst (LinkChecked n d s o) q p

@@ -8,11 +8,11 @@ use mathlib.Core.Logic.{⊎-elim}
 use mathlib.Core.List.{List, [], _∷_}
 use mathlib.Core.Bool.{Bool, true, false, _&&_}
 use lib.Dec.{ltb}
-use lib.ListN.{getD, take, drop}
+use lib.ListN.{length, getD, take, drop, length-take}
 use lib.Seq.{getD-take, getD-drop}
 use borrow.Author.Tests.{ltb-true}
 use Rattle.loops.specs.Loops.{pick}
-use Rattle.order.specs.Vector.{Vec, vectorIn, mergeOne, mergedAt}
+use Rattle.order.specs.Vector.{Vec, vectorIn, zeros, mergeOne, mergedAt}
 use Rattle.order.specs.Record.{vectorOf}
 use Rattle.loops.proofs.BoolLaws.{decided, pick-true, pick-false}
 use Rattle.loops.proofs.LoopLaws.{times-same}
@@ -22,8 +22,9 @@ use Rattle.book.proofs.WordsLaws.{part-from}
 use Rattle.shelf.specs.Asks.{Ready}
 use Rattle.shelf.specs.Show.{shown, settled}
 use Rattle.links.specs.Send.{fourOf}
-use Rattle.register.specs.declared.answer.ReadAnswer.{ReadAnswer}
-use Rattle.register.specs.Answers.{cut, tells}
+use Rattle.paper.specs.Calls.{Told, Answer, reads}
+use Rattle.paper.specs.Answers.{entriesIn, padded, Holds}
+use Rattle.register.specs.Answers.{cut, told}
 use Rattle.register.specs.Calls.{settledHome, readRecord, readBook}
 use Rattle.named.specs.Named.{tickParts, homeParts, readParts, writeParts}
 use Rattle.named.proofs.NamedLaws.{Based}
@@ -92,21 +93,51 @@ cut-same n u v h e = λ i. one 0 i ∷ one 1 i ∷ one 2 i ∷ one 3 i ∷ []
 pub cut-part : (n : ℕ) (r : List ℕ) → n ≤ 4 → cut n (vectorIn (take 4 (drop 5 r))) ≡ cut n (vectorOf r)
 cut-part n r h = cut-same n _ _ h λ x l. getD-take 4 (drop 5 r) x 0 (lt-of-lt-of-le l h) ∙ getD-drop 5 r x 0
 
+-- the room of a vector holds the entries that are told of it
+cut-padded : (n : ℕ) (v : Vec) → n ≤ 4 → cut n v ≡ padded (take n (cut n v))
+unfolding cut padded pick
+cut-padded zero v h = refl
+cut-padded (suc zero) v h = refl
+cut-padded (suc (suc zero)) v h = refl
+cut-padded (suc (suc (suc zero))) v h = refl
+cut-padded (suc (suc (suc (suc zero)))) v h = refl
+cut-padded (suc (suc (suc (suc (suc n))))) v h = absurd (omega arith)
+
+cut-count : (n : ℕ) (v : Vec) → n ≤ 4 → n ≡ length (take n (cut n v))
+unfolding cut
+cut-count n v h = sym (length-take n (cut n v) ∙ omega arith)
+
+pub told-entries : (n : ℕ) (r : List ℕ) → entriesIn (reads (told n r)) ≡ take n (cut n (vectorOf r))
+unfolding told entriesIn
+told-entries n r =
+    ⊎-elim
+    (λ (z : zeros n (vectorOf r) ≡ true). ap (λ (t : Told). entriesIn (reads t)) (pick-true _ _ z))
+    (λ (z : zeros n (vectorOf r) ≡ false). ap (λ (t : Told). entriesIn (reads t)) (pick-false _ _ z))
+    (decided (zeros n (vectorOf r)))
+
+pub told-holds :
+    (n : ℕ) (r : List ℕ) {a : Answer} {v : List ℕ} {m : ℕ} → n ≤ 4 → a ≡ reads (told n r) → v ≡ cut n (vectorOf r) → m ≡ n → Holds a v m
+told-holds n r h ea ev em =
+    let same = ap entriesIn ea ∙ told-entries n r in
+    record { vector = ev ∙ cut-padded n _ h ∙ sym (ap padded same); count = em ∙ cut-count n _ h ∙ sym (ap (λ (u : List ℕ). length u) same) }
+
 module _ (l : List ℕ) (c k : ℕ) {n : Counts} (en : n ≡ countsOf l) {m : List ℕ} (em : m ≡ settledHome l c k) where
-  pub told-done : {d at : ℕ} {r : ReadAnswer} → d ≡ home l c → at ≡ storedAt d k → r ≡ tells (n .depots) (take (at + 9 - at) (drop at m)) → r ≡ tells (countsOf l .depots) (readRecord l c k)
+  -- the record that was looked up
+  pub record-read : {d at : ℕ} → d ≡ home l c → at ≡ storedAt d k → take (at + 9 - at) (drop at m) ≡ readRecord l c k
   unfolding readRecord
-  told-done {d} {at} ed ea h =
-      h
-      ∙ ap (λ (v : Counts). tells (v .depots) (take (at + 9 - at) (drop at m))) en
-      ∙ ap (tells (countsOf l .depots)) (part-from m 9 ea ∙ ap₂ (λ (w : List ℕ) (x : ℕ). stored w x k) em ed)
+  record-read ed ea = part-from m 9 ea ∙ ap₂ (λ (w : List ℕ) (x : ℕ). stored w x k) em ed
+
+  -- what is told of it, with the depots read
+  pub told-done : {A : Type 0} (f : ℕ → List ℕ → A) {r : List ℕ} {a : A} → r ≡ readRecord l c k → a ≡ f (n .depots) r → a ≡ f (countsOf l .depots) (readRecord l c k)
+  told-done f e h = h ∙ ap₂ f (ap (λ (v : Counts). v .depots) en) e
 
   pub merged-done :
-      {at : ℕ} {r : ReadAnswer} {m₂ : List ℕ} → countsOf l .depots ≤ 4 → at ≡ crewAt c → r ≡ tells (countsOf l .depots) (readRecord l c k) →
-      m₂ ≡ mergedAt (n .depots) (n .depots) (vectorIn (r .vector)) at m → m₂ ≡ readBook l c k
-  unfolding readBook tells
-  merged-done {at} {r} small ea er h =
+      {at : ℕ} {v m₂ : List ℕ} → countsOf l .depots ≤ 4 → at ≡ crewAt c → v ≡ cut (countsOf l .depots) (vectorOf (readRecord l c k)) →
+      m₂ ≡ mergedAt (n .depots) (n .depots) (vectorIn v) at m → m₂ ≡ readBook l c k
+  unfolding readBook
+  merged-done {at} {v} small ea ev h =
       h
-      ∙ ap (λ (v : Counts). mergedAt (v .depots) (v .depots) (vectorIn (r .vector)) at m) en
-      ∙ ap₂ (λ (w : List ℕ) (x : ℕ). mergedAt (countsOf l .depots) (countsOf l .depots) (vectorIn (r .vector)) x w) em ea
-      ∙ merged-same (countsOf l .depots) _ _ (vectorIn (r .vector)) (vectorOf (readRecord l c k)) (settledHome l c k)
-      (λ x z. ap (λ (a : ReadAnswer). getD (a .vector) x 0) er ∙ cut-at (countsOf l .depots) (vectorOf (readRecord l c k)) x small z)
+      ∙ ap (λ (w : Counts). mergedAt (w .depots) (w .depots) (vectorIn v) at m) en
+      ∙ ap₂ (λ (w : List ℕ) (x : ℕ). mergedAt (countsOf l .depots) (countsOf l .depots) (vectorIn v) x w) em ea
+      ∙ merged-same (countsOf l .depots) _ _ (vectorIn v) (vectorOf (readRecord l c k)) (settledHome l c k)
+      (λ x z. ap (λ (u : List ℕ). getD u x 0) ev ∙ cut-at (countsOf l .depots) (vectorOf (readRecord l c k)) x small z)

@@ -1,6 +1,6 @@
 -- The rows of a setup's table, and the words that setup writes one after the other.
 -- Assumes nothing.
-use Prim.Native.Nat.{ℕ, _<_}
+use Prim.Native.Nat.{ℕ}
 use native.Mathlib.Nat.{zero-add}
 use native.Mathlib.Omega.{arith}
 use mathlib.Core.Path.{_≡_, sym, _∙_, ap}
@@ -11,7 +11,7 @@ use lib.ListN.{length, getD, replicate, length-replicate}
 use lib.Seq.{ext-getD}
 use borrow.Author.Tests.{eq-eqb, ne-eqb}
 use Rattle.loops.specs.Loops.{every}
-use Rattle.loops.proofs.BoolLaws.{pick-false, not-failed, or-left, or-right, or-next}
+use Rattle.loops.proofs.BoolLaws.{not-failed, or-left, or-right, or-next}
 use Rattle.book.specs.declared.parts.Counts.{Counts}
 use Rattle.book.specs.Words.{put}
 use Rattle.book.specs.Layout.{homeAt}
@@ -19,12 +19,12 @@ use Rattle.book.proofs.WordsLaws.{length-put, put-in}
 use Rattle.fit.specs.Fit.{countsFit}
 use Rattle.register.specs.Table.{setupNumber}
 use Rattle.register.specs.Calls.{setUp}
-use Rattle.register.specs.declared.answer.Refusal.{Refusal}
-use Rattle.register.specs.declared.answer.Answer.{Answer}
-use Rattle.register.specs.Answers.{refusalOf, answerOf}
-use Rattle.register.specs.Promises.{after, Setup}
+use Rattle.paper.specs.declared.answer.Refusal.{Refusal}
+use Rattle.paper.specs.declared.answer.Answer.{Answer}
+use Rattle.paper.specs.Answers.{numberOf, paper}
+use Rattle.register.specs.Promises.{Setup}
 use Rattle.register.proofs.TableLaws.{first-stop, first-next, first-none}
-use Rattle.register.proofs.CallLaws.{answer-done, after-done}
+use Rattle.register.proofs.CallLaws.{by-refusal, by-done, after-refused, after-done}
 
 -- ---- the table
 
@@ -75,15 +75,11 @@ fresh-words l n homes e p q r =
 -- ---- the promise
 
 module _ (l : List ℕ) (n : Counts) (homes : List ℕ) where
-  -- refused with the number m: the answer, and the book as it was
-  pub setup-refused : (m : ℕ) {r : Refusal} {l′ : List ℕ} → setupNumber l n homes ≡ m → 0 < m → refusalOf m ≡ r → l′ ≡ l → Setup l n homes (Answer.Refused r) l′
-  unfolding answerOf after
-  setup-refused m e k q same =
-      let z : eqb (setupNumber l n homes) 0 ≡ false = ne-eqb _ 0 λ (h : setupNumber l n homes ≡ 0). omega arith in
-      record {
-        answer = ap Answer.Refused (sym (ap refusalOf e ∙ q)) ∙ sym (pick-false Answer.Done _ z);
-        book = same ∙ sym (pick-false (setUp n homes) l z);
-      }
+  -- refused: the answer, and the book as it was
+  pub setup-refused : (r : Refusal) {l′ : List ℕ} → setupNumber l n homes ≡ numberOf r → l′ ≡ l → Setup l n homes (Answer.Refused r) l′
+  unfolding paper
+  setup-refused r e same = record { answer = by-refusal r _ e; book = same ∙ after-refused r _ _ e }
 
   pub setup-done : {l′ : List ℕ} → setupNumber l n homes ≡ 0 → l′ ≡ setUp n homes → Setup l n homes Answer.Done l′
-  setup-done e same = record { answer = answer-done _ e; book = same ∙ after-done _ _ _ e }
+  unfolding paper
+  setup-done e same = record { answer = by-done e; book = same ∙ after-done _ _ e }

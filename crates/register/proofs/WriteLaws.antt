@@ -21,8 +21,8 @@ use Rattle.book.proofs.WordsLaws.{part-from}
 use Rattle.shelf.specs.Asks.{Ready, Free}
 use Rattle.shelf.specs.Show.{keptIn, settled}
 use Rattle.links.specs.Send.{sent, fourOf}
-use Rattle.register.specs.Answers.{cut, writes}
-use Rattle.register.specs.declared.answer.WriteAnswer.{WriteAnswer}
+use Rattle.register.specs.Answers.{cut, written}
+use Rattle.paper.specs.Calls.{Answer}
 use Rattle.register.specs.Checks.{MayWrite}
 use Rattle.register.specs.Calls.{settledHome, newStamp, withEntry, madeVector, madeRecord, writtenCrew, isCurrent, writeBook}
 use Rattle.register.proofs.Numbers.{WriteDone, write-done}
@@ -93,8 +93,8 @@ module _ (l : List ℕ) (c k value : ℕ) {n d s stamp : ℕ} (M : MayWrite l c 
   unfolding writeBook
   sent-made e e₂ p = p ∙ (λ z. sent (M .depots z) (M .depot z) (M .shelf z) (M .stamped z) (e z) (e₂ z))
 
-  pub answer-made : {b : Bool} {a : WriteAnswer} → b ≡ isCurrent l c k value → a ≡ writes stamp b → a ≡ writes (newStamp l c k) (isCurrent l c k value)
-  answer-made e p = p ∙ (λ z. writes (M .stamped z) (e z))
+  pub answer-made : {b : Bool} {a : Answer} → b ≡ isCurrent l c k value → a ≡ written stamp b → a ≡ written (newStamp l c k) (isCurrent l c k value)
+  answer-made e p = p ∙ (λ z. written (M .stamped z) (e z))
 
   -- what is known on the way
   pub may-done : WriteDone l c k

@@ -4,8 +4,7 @@ use Prim.Native.Nat.{ℕ, _+_}
 use mathlib.Core.Path.{_≡_}
 use mathlib.Core.Bool.{_||_, not}
 use mathlib.Core.List.{List, [], _∷_}
-use lib.Dec.{eqb, leb}
-use Rattle.loops.specs.Loops.{pick}
+use lib.Dec.{leb}
 use Rattle.register.specs.declared.check.PlaceCheck.{PlaceCheck}
 use Rattle.register.specs.declared.check.AskCheck.{AskCheck}
 use Rattle.register.specs.declared.check.LinkCheck.{LinkCheck}
@@ -13,7 +12,7 @@ use Rattle.book.specs.Layout.{countsOf, home, clock}
 use Rattle.named.specs.Named.{baseFit}
 use Rattle.paper.specs.Calls.{first}
 use Rattle.register.specs.Table.{shelfOf, writeNumber}
-use Rattle.register.specs.Answers.{refusalOf}
+use Rattle.paper.specs.Answers.{numberOf}
 
 -- the length, the counts and the homes, then a depot and a shelf: all of a tick's and a refresh's table that no further part has a say in
 unfoldable pub placeNumber : List ℕ → ℕ → ℕ → ℕ
@@ -23,9 +22,10 @@ placeNumber l d s = first
     ∷ (leb (countsOf l .shelves) s, 3)
     ∷ [])
 
--- a depot and a shelf, where the number is 0
-unfoldable pub placeOfNumber : ℕ → ℕ → ℕ → PlaceCheck
-placeOfNumber number d s = pick (eqb number 0) (PlaceCheck.Good (record { 0 = d }) (record { 0 = s })) (PlaceCheck.Bad (refusalOf number))
+-- a depot and a shelf where the number is 0, else the refusal that has it
+unfoldable pub PlaceChecked : ℕ → ℕ → ℕ → PlaceCheck → Type 0
+PlaceChecked number d s (PlaceCheck.Good a b) = (number ≡ 0) × (record { 0 = d } ≡ a) × (record { 0 = s } ≡ b)
+PlaceChecked number d s (PlaceCheck.Bad r) = number ≡ numberOf r
 
 -- the same, with a crew and a bearing, of a read's and a write's table
 unfoldable pub askedNumber : List ℕ → ℕ → ℕ → ℕ
@@ -35,9 +35,10 @@ askedNumber l c k = first
     ∷ (leb (countsOf l .bearings) k, 4)
     ∷ [])
 
--- a crew and a bearing, where the number is 0
-unfoldable pub askedOf : ℕ → ℕ → ℕ → AskCheck
-askedOf number c k = pick (eqb number 0) (AskCheck.Good (record { 0 = c }) (record { 0 = k })) (AskCheck.Bad (refusalOf number))
+-- a crew and a bearing where the number is 0, else the refusal that has it
+unfoldable pub AskChecked : ℕ → ℕ → ℕ → AskCheck → Type 0
+AskChecked number c k (AskCheck.Good a b) = (number ≡ 0) × (record { 0 = c } ≡ a) × (record { 0 = k } ≡ b)
+AskChecked number c k (AskCheck.Bad r) = number ≡ numberOf r
 
 -- the same, with a depot, a shelf and the depot that a message comes from, of a take's table
 unfoldable pub linkNumber : List ℕ → ℕ → ℕ → ℕ → ℕ
@@ -47,9 +48,10 @@ linkNumber l d s from = first
     ∷ (leb (countsOf l .shelves) s, 3)
     ∷ [])
 
--- these three, where the number is 0
-unfoldable pub linkOfNumber : ℕ → ℕ → ℕ → ℕ → LinkCheck
-linkOfNumber number d s from = pick (eqb number 0) (LinkCheck.Good (record { 0 = d }) (record { 0 = s }) (record { 0 = from })) (LinkCheck.Bad (refusalOf number))
+-- these three where the number is 0, else the refusal that has it
+unfoldable pub LinkChecked : ℕ → ℕ → ℕ → ℕ → LinkCheck → Type 0
+LinkChecked number d s from (LinkCheck.Good a b e) = (number ≡ 0) × (record { 0 = d } ≡ a) × (record { 0 = s } ≡ b) × (record { 0 = from } ≡ e)
+LinkChecked number d s from (LinkCheck.Bad r) = number ≡ numberOf r
 
 -- crew c may write this value to bearing k, at its home: n depots, home depot d, shelf s, and the stamp that it gets
 pub record MayWrite (l : List ℕ) (c k value n d s stamp : ℕ) : Type 0 where

@@ -1,5 +1,4 @@
 // The checks that calls share, in the order of document 01's table: the book's length, its counts and homes, then the numbers. A number that passed has its own type from here on.
-use crate::answer::Refusal;
 use book::numbers::Bearing;
 use book::numbers::BearingCheck;
 use book::numbers::Crew;
@@ -10,8 +9,8 @@ use book::numbers::Shelf;
 use book::numbers::ShelfCheck;
 use book::parts::counts_of;
 use named::base_fits;
-ghost use mathlib.Core.Path.{_≡_};
-ghost use Rattle.register.specs.Checks.{placeNumber, placeOfNumber, askedNumber, askedOf, linkNumber, linkOfNumber};
+use paper::answer::Refusal;
+ghost use Rattle.register.specs.Checks.{placeNumber, PlaceChecked, askedNumber, AskChecked, linkNumber, LinkChecked};
 
 // A depot and a shelf that a call names.
 pub enum PlaceCheck {
@@ -33,7 +32,7 @@ pub enum LinkCheck {
 
 // BAD BOOK, BAD DEPOT, BAD SHELF.
 pub fn check_place(book: &[u32], depot: u32, shelf: u32) -> PlaceCheck
-    ensures { λ r. ⌜ r ≡ placeOfNumber (placeNumber (now (book .entry)) depot shelf) depot shelf ⌝ }
+    ensures { λ r. ⌜ PlaceChecked (placeNumber (now (book .entry)) depot shelf) depot shelf r ⌝ }
 {
     if !base_fits(book) {
         return PlaceCheck::Bad(Refusal::BadBook);
@@ -50,7 +49,7 @@ pub fn check_place(book: &[u32], depot: u32, shelf: u32) -> PlaceCheck
 
 // BAD BOOK, BAD CREW, BAD KEY.
 pub fn check_asked(book: &[u32], crew: u32, bearing: u32) -> AskCheck
-    ensures { λ r. ⌜ r ≡ askedOf (askedNumber (now (book .entry)) crew bearing) crew bearing ⌝ }
+    ensures { λ r. ⌜ AskChecked (askedNumber (now (book .entry)) crew bearing) crew bearing r ⌝ }
 {
     if !base_fits(book) {
         return AskCheck::Bad(Refusal::BadBook);
@@ -67,7 +66,7 @@ pub fn check_asked(book: &[u32], crew: u32, bearing: u32) -> AskCheck
 
 // BAD BOOK, BAD DEPOT (either), BAD SHELF.
 pub fn check_link(book: &[u32], depot: u32, shelf: u32, from: u32) -> LinkCheck
-    ensures { λ r. ⌜ r ≡ linkOfNumber (linkNumber (now (book .entry)) depot shelf from) depot shelf from ⌝ }
+    ensures { λ r. ⌜ LinkChecked (linkNumber (now (book .entry)) depot shelf from) depot shelf from r ⌝ }
 {
     if !base_fits(book) {
         return LinkCheck::Bad(Refusal::BadBook);

@@ -1,5 +1,4 @@
-// What the calls share: answers, the checks of numbers, a crew at its home, and the promise of each call. The calls are in crates of their own.
-pub mod answer;
+// What the calls share: the checks of numbers, a crew at its home, and the promise of each call. The calls are in crates of their own.
 pub mod check;
 pub mod home;
 pub mod version;

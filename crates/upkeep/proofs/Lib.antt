@@ -9,7 +9,6 @@ pub mod FitSetup
 pub mod FitOwnParts
 pub mod FitOwn
 pub mod FitOwnCase
-pub mod PaperLaws
 pub mod NeverBadBook
 pub mod NeverBadAnswer
 pub mod Unique

@@ -1,4 +1,4 @@
--- What is left to show of each request: its number and its reply are the same for both books, and where it is done the changed books agree on the set
+-- What is left to show of each request: its number is the same for both books, and where it is done so is its answer, and the changed books agree on the set
 -- and on what it writes; and where it is done, what it does not write stays.
 -- Assumes nothing.
 use Prim.Native.Nat.{ℕ}
@@ -10,8 +10,9 @@ use lib.ListN.{length, getD}
 use borrow.Author.Tests.{eqb-true, eq-eqb}
 use Rattle.loops.proofs.BoolLaws.{pick-true}
 use Rattle.shelf.proofs.FrameLaws.{pick-cases}
+use Rattle.paper.specs.Calls.{Answer, refused, answerBy}
 use Rattle.register.specs.Promises.{after}
-use Rattle.upkeep.specs.Requests.{Request, numberAt, replyTo, changedBy, bookAfter}
+use Rattle.upkeep.specs.Requests.{Request, numberAt, doneAnswer, replyTo, changedBy, bookAfter}
 use Rattle.upkeep.specs.Local.{Agree, Changed, Written, Alike}
 use Rattle.upkeep.proofs.LocalBasics.{pick-alike}
 
@@ -20,10 +21,15 @@ unfolding bookAfter after
 done-book l r z = pick-true _ _ (eq-eqb _ 0 z)
 
 pub alike-by :
-    (S : ℕ → Type 0) (l m : List ℕ) (r : Request) → numberAt l r ≡ numberAt m r → replyTo l r ≡ replyTo m r →
+    (S : ℕ → Type 0) (l m : List ℕ) (r : Request) → numberAt l r ≡ numberAt m r → (numberAt l r ≡ 0 → doneAnswer l r ≡ doneAnswer m r) →
     (numberAt l r ≡ 0 → Agree (λ (j : ℕ). S j ⊎ Changed l r j) (changedBy l r) (changedBy m r)) → Agree S l m → Alike S l m r
-alike-by S l m r e reply D A = record { number = e; reply = reply; book = book; written = written }
+alike-by S l m r e answers D A = record { number = e; reply = reply; book = book; written = written }
   where
+    reply : replyTo l r ≡ replyTo m r
+    reply =
+        unfold replyTo answerBy in
+        pick-alike (λ (a b : Answer). a ≡ b) (ap (λ (k : ℕ). eqb k 0) e) (λ z. answers (eqb-true _ 0 z)) λ z. ap refused e
+
     book : Agree S (bookAfter l r) (bookAfter m r)
     book =
         unfold bookAfter after in

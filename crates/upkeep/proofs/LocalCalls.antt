@@ -12,11 +12,10 @@ use Rattle.book.specs.declared.parts.Counts.{Counts}
 use Rattle.book.specs.Words.{put}
 use Rattle.book.specs.Layout.{bookWords, homeAt}
 use Rattle.book.proofs.WordsLaws.{length-put}
-use Rattle.register.specs.Answers.{answerOf}
 use Rattle.register.specs.Table.{setupNumber}
 use Rattle.register.specs.Calls.{setUp}
 use Rattle.register.proofs.Numbers.{setup-done}
-use Rattle.upkeep.specs.Requests.{Request, setup, call, Reply, numberAt, replyTo, changedBy}
+use Rattle.upkeep.specs.Requests.{Request, setup, call, numberAt, doneAnswer, changedBy}
 use Rattle.upkeep.specs.Local.{Agree, Named, Changed, all-of-it, Alike, Local}
 use Rattle.upkeep.proofs.LocalBasics.{first-alike}
 use Rattle.upkeep.proofs.LocalAlike.{alike-by, stays-by, size-by}
@@ -38,10 +37,10 @@ unfolding setupNumber
 setup-number l m n homes e = first-alike 1 _ _ (ap (λ (k : ℕ). not (eqb k bookWords)) e) λ z. refl
 
 setup-alike : (S : ℕ → Type 0) (l m : List ℕ) (n : Counts) (homes : List ℕ) → Agree S l m → Alike S l m (setup n homes)
-unfolding numberAt replyTo changedBy
+unfolding numberAt doneAnswer changedBy
 setup-alike S l m n homes A =
     let e = setup-number l m n homes (A .size) in
-    alike-by S l m (setup n homes) e (ap (λ (k : ℕ). Reply.plain (answerOf k)) e) (λ z. record { size = refl; words = λ j k. refl }) A
+    alike-by S l m (setup n homes) e (λ z. refl) (λ z. record { size = refl; words = λ j k. refl }) A
 
 setup-size : (l : List ℕ) (n : Counts) (homes : List ℕ) → numberAt l (setup n homes) ≡ 0 → length (changedBy l (setup n homes)) ≡ length l
 unfolding numberAt changedBy

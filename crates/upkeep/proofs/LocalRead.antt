@@ -6,9 +6,9 @@ use mathlib.Core.Path.{_≡_, refl, sym, _∙_, ap, ap₂, subst}
 use mathlib.Core.Logic.{_⊎_, ⊎-elim}
 use mathlib.Core.List.{List}
 use mathlib.Core.Bool.{true, not}
-use lib.Dec.{leb, eqb}
+use lib.Dec.{leb}
 use lib.ListN.{length, getD}
-use borrow.Author.Tests.{leb-false, eqb-true}
+use borrow.Author.Tests.{leb-false}
 use Rattle.order.specs.Vector.{mergedAt}
 use Rattle.order.specs.Record.{vectorOf}
 use Rattle.order.proofs.VectorLaws.{length-merged, merged-other}
@@ -19,15 +19,15 @@ use Rattle.named.proofs.NamedLaws.{read-based, read-named}
 use Rattle.shelf.proofs.FrameLaws.{off-sides}
 use Rattle.shelf.proofs.ShowFrame.{length-settled}
 use Rattle.paper.specs.Calls.{read}
-use Rattle.register.specs.declared.answer.ReadAnswer.{ReadAnswer}
-use Rattle.register.specs.Answers.{tells, readRefused}
+use Rattle.paper.specs.Calls.{Answer}
+use Rattle.register.specs.Answers.{told}
 use Rattle.register.specs.Table.{shelfOf, readNumber}
 use Rattle.register.specs.Calls.{settledHome, readRecord, readBook}
 use Rattle.register.proofs.Numbers.{ReadDone, read-done}
-use Rattle.upkeep.specs.Requests.{call, Reply, numberAt, replyTo, changedBy}
+use Rattle.upkeep.specs.Requests.{call, numberAt, doneAnswer, changedBy}
 use Rattle.upkeep.specs.Local.{Agree, BaseWord, of-crew, of-home, ReadWord, Named, based, by-read}
 use Rattle.upkeep.specs.Local.{FoundWord, the-crew, the-home, Changed, reading, Alike}
-use Rattle.upkeep.proofs.LocalBasics.{or-alike, and-alike, first-alike, pick-alike, agree-fewer}
+use Rattle.upkeep.proofs.LocalBasics.{or-alike, and-alike, first-alike, agree-fewer}
 use Rattle.upkeep.proofs.LocalParts.{counts-agree, base-agrees}
 use Rattle.upkeep.proofs.LocalMoves.{merged-agrees}
 use Rattle.upkeep.proofs.LocalShow.{settled-named}
@@ -88,12 +88,10 @@ module _ (S : ℕ → Type 0) (l m : List ℕ) (c k : ℕ) (H : (j : ℕ) → Na
         (settled-home-agrees l c k (read-based l c k (t .fits)) (t .crew) S m A B W (done-shows l c k t))))
 
   pub read-alike : Alike S l m (call (read c k))
-  unfolding numberAt replyTo changedBy
+  unfolding numberAt doneAnswer changedBy
   read-alike =
       alike-by S l m (call (read c k)) number
-      (ap Reply.found
-      (pick-alike (λ (a b : ReadAnswer). a ≡ b) (ap (λ (x : ℕ). eqb x 0) number)
-      (λ z. ap₂ (λ (n : Counts) (r : List ℕ). tells (n .depots) r) counts (found (read-done l c k (eqb-true _ 0 z)))) λ z. ap readRefused number))
+      (λ z. ap₂ (λ (n : Counts) (r : List ℕ). Answer.reads (told (n .depots) r)) counts (found (read-done l c k z)))
       (λ z. book (read-done l c k z)) A
 
 module _ (l : List ℕ) (c k : ℕ) where

@@ -19,11 +19,10 @@ use Rattle.shelf.specs.Show.{settled}
 use Rattle.links.specs.Send.{lowest, lowestSeen}
 use Rattle.shelf.proofs.ShowFrame.{length-settled}
 use Rattle.paper.specs.Calls.{refresh}
-use Rattle.register.specs.Answers.{answerOf}
 use Rattle.register.specs.Table.{refreshNumber}
 use Rattle.register.specs.Calls.{refreshBook}
 use Rattle.register.proofs.Numbers.{RefreshDone, refresh-done}
-use Rattle.upkeep.specs.Requests.{call, Reply, numberAt, replyTo, changedBy}
+use Rattle.upkeep.specs.Requests.{call, numberAt, doneAnswer, changedBy}
 use Rattle.upkeep.specs.Local.{Agree, BaseWord, RefreshWord, of-seens, of-shelf, Named, based, by-refresh, SettledWord, Changed, refreshing, Alike}
 use Rattle.upkeep.proofs.LocalBasics.{or-alike, and-alike, first-alike, times-alike, agree-fewer}
 use Rattle.upkeep.proofs.LocalParts.{counts-agree, base-agrees, refresh-parts-agree}
@@ -86,8 +85,8 @@ module _ (S : ℕ → Type 0) (l m : List ℕ) (d s : ℕ) (H : (j : ℕ) → Na
       (lowest-agrees (n .depots) (n .shelves) d l m (λ r x y z g. A .words (seenAt d r + x) (W _ (of-seens r x y z g refl)))) A))
 
   pub refresh-alike : Alike S l m (call (refresh d s))
-  unfolding numberAt replyTo changedBy
-  refresh-alike = alike-by S l m (call (refresh d s)) number (ap (λ (k : ℕ). Reply.plain (answerOf k)) number) (λ z. book (refresh-done l d s z)) A
+  unfolding numberAt doneAnswer changedBy
+  refresh-alike = alike-by S l m (call (refresh d s)) number (λ z. refl) (λ z. book (refresh-done l d s z)) A
 
 module _ (l : List ℕ) (d s : ℕ) where
   pub refresh-stays :

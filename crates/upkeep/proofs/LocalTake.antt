@@ -17,11 +17,10 @@ use Rattle.named.specs.Named.{baseFit, takeParts, takeFit}
 use Rattle.named.proofs.NamedLaws.{take-based, take-named}
 use Rattle.links.proofs.SendFrame.{length-took, took-off}
 use Rattle.paper.specs.Calls.{take}
-use Rattle.register.specs.Answers.{answerOf}
 use Rattle.register.specs.Table.{takeNumber}
 use Rattle.register.specs.Calls.{takeBook}
 use Rattle.register.proofs.Numbers.{TakeDone, take-done, or-none}
-use Rattle.upkeep.specs.Requests.{call, Reply, numberAt, replyTo, changedBy}
+use Rattle.upkeep.specs.Requests.{call, numberAt, doneAnswer, changedBy}
 use Rattle.upkeep.specs.Local.{Agree, BaseWord, LinkWord, of-head, of-messages, TakeWord, of-seen, of-sender, Named, based, by-take}
 use Rattle.upkeep.specs.Local.{TookWord, the-seen, the-head, the-slots, Changed, taking, Alike}
 use Rattle.upkeep.proofs.LocalBasics.{or-alike, and-alike, first-alike, agree-fewer}
@@ -100,8 +99,8 @@ module _ (S : ℕ → Type 0) (l m : List ℕ) (d s from : ℕ) (H : (j : ℕ) �
       (λ j i. K j (of-messages h i)) A)
 
   pub take-alike : Alike S l m (call (take d s from))
-  unfolding numberAt replyTo changedBy
-  take-alike = alike-by S l m (call (take d s from)) number (ap (λ (k : ℕ). Reply.plain (answerOf k)) number) (λ z. book (take-done l d s from z)) A
+  unfolding numberAt doneAnswer changedBy
+  take-alike = alike-by S l m (call (take d s from)) number (λ z. refl) (λ z. book (take-done l d s from z)) A
 
 module _ (l : List ℕ) (d s from : ℕ) where
   pub take-stays :

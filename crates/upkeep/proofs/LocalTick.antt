@@ -16,12 +16,11 @@ use Rattle.named.proofs.NamedLaws.{base-open, tick-based}
 use Rattle.links.specs.Send.{roomy, sent, beat}
 use Rattle.links.proofs.SendFrame.{length-sent, sent-off}
 use Rattle.paper.specs.Calls.{tick}
-use Rattle.register.specs.Answers.{answerOf}
 use Rattle.register.specs.Table.{tickNumber}
 use Rattle.register.specs.Calls.{tickBook}
 use Rattle.register.proofs.Numbers.{TickDone, tick-done}
 use Rattle.register.proofs.FitReady.{roomy-free}
-use Rattle.upkeep.specs.Requests.{call, Reply, numberAt, replyTo, changedBy}
+use Rattle.upkeep.specs.Requests.{call, numberAt, doneAnswer, changedBy}
 use Rattle.upkeep.specs.Local.{Agree, BaseWord, TickWord, of-clock, of-head-out, Named, based, by-tick}
 use Rattle.upkeep.specs.Local.{SentWord, the-clock, the-count, the-slot, Changed, ticking, Alike}
 use Rattle.upkeep.proofs.LocalBasics.{or-alike, and-alike, first-alike, agree-fewer}
@@ -81,8 +80,8 @@ module _ (S : ℕ → Type 0) (l m : List ℕ) (d s : ℕ) (H : (j : ℕ) → Na
       (ap (λ (k : Counts). k .depots) counts) (ap (λ (k : ℕ). k + 1) (clock-agrees S l m A (countsOf l) d s W)) C)
 
   pub tick-alike : Alike S l m (call (tick d s))
-  unfolding numberAt replyTo changedBy
-  tick-alike = alike-by S l m (call (tick d s)) number (ap (λ (k : ℕ). Reply.plain (answerOf k)) number) (λ z. book (tick-done l d s z)) A
+  unfolding numberAt doneAnswer changedBy
+  tick-alike = alike-by S l m (call (tick d s)) number (λ z. refl) (λ z. book (tick-done l d s z)) A
 
 module _ (l : List ℕ) (d s : ℕ) where
   pub tick-stays : (j : ℕ) → numberAt l (call (tick d s)) ≡ 0 → (Changed l (call (tick d s)) j → ⊥) → getD (changedBy l (call (tick d s))) j 0 ≡ getD l j 0

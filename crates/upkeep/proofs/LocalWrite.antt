@@ -10,7 +10,7 @@ use mathlib.Core.Bool.{Bool, true, not, _&&_}
 use lib.Dec.{leb, ltb, eqb}
 use lib.ListN.{length, getD, length-set}
 use lib.Seq.{getD-set-other}
-use borrow.Author.Tests.{leb-false, eqb-true, not-false}
+use borrow.Author.Tests.{leb-false, not-false}
 use Rattle.order.specs.Order.{above}
 use Rattle.order.specs.Record.{rankOf}
 use Rattle.loops.proofs.BoolLaws.{and-left}
@@ -24,15 +24,14 @@ use Rattle.shelf.proofs.FrameLaws.{Off, length-kept-in, kept-in-off}
 use Rattle.links.proofs.SendFrame.{length-sent, sent-off}
 use Rattle.shelf.proofs.ShowFrame.{length-settled}
 use Rattle.paper.specs.Calls.{write}
-use Rattle.register.specs.declared.answer.WriteAnswer.{WriteAnswer}
-use Rattle.register.specs.Answers.{cut, writes, writeRefused}
+use Rattle.register.specs.Answers.{cut, written}
 use Rattle.register.specs.Table.{shelfOf, writeNumber}
 use Rattle.register.specs.Calls.{settledHome, newStamp, madeVector, madeRecord, writtenCrew, isCurrent, writeBook}
 use Rattle.register.proofs.Numbers.{WriteDone, write-done}
 use Rattle.register.proofs.FitReady.{free, out-stays}
 use Rattle.register.proofs.HomeLaws.{cut-same}
 use Rattle.register.proofs.MadeLaws.{length-made, made-bearing}
-use Rattle.upkeep.specs.Requests.{call, Reply, numberAt, replyTo, changedBy}
+use Rattle.upkeep.specs.Requests.{call, numberAt, doneAnswer, changedBy}
 use Rattle.upkeep.specs.Local.{Agree, In, BaseWord, of-crew, of-stored, of-home, TickWord, ReadWord, as-read, as-tick, Named, based, by-write}
 use Rattle.upkeep.specs.Local.{the-clock, the-count, the-slot, WroteWord, the-own, the-stored, the-shelf, the-copy, Changed, writing, Alike}
 use Rattle.upkeep.proofs.LocalBasics.{or-alike, and-alike, first-alike, pick-alike, agree-fewer, set-agrees, part-agrees}
@@ -186,12 +185,10 @@ module _ (S : ℕ → Type 0) (l m : List ℕ) (c k value : ℕ) (H : (j : ℕ) 
         (count-held S l m A (countsOf l) (home l c) (shelfOf l k) T) stock))
 
   pub write-alike : Alike S l m (call (write c k value))
-  unfolding numberAt replyTo changedBy
+  unfolding numberAt doneAnswer changedBy
   write-alike =
       alike-by S l m (call (write c k value)) number
-      (ap Reply.wrote
-      (pick-alike (λ (a b : WriteAnswer). a ≡ b) (ap (λ (x : ℕ). eqb x 0) number)
-      (λ z. let t = write-done l c k value (eqb-true _ 0 z) in ap₂ writes (stamp t) (current t)) λ z. ap writeRefused number))
+      (λ z. let t = write-done l c k value z in ap₂ written (stamp t) (current t))
       (λ z. book (write-done l c k value z)) A
 
 module _ (l : List ℕ) (c k value : ℕ) where

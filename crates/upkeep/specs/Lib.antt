@@ -1,4 +1,3 @@
 pub mod Requests
-pub mod Paper
 pub mod Local
 pub mod Own

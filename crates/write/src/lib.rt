@@ -18,8 +18,8 @@ use links::send::send;
 use named::write_parts_fit;
 use order::record::RECORD_WORDS;
 use order::record::is_above;
-use register::answer::Refusal;
-use register::answer::WriteAnswer;
+use paper::answer::Refusal;
+use paper::answer::WriteAnswer;
 use register::check::AskCheck;
 use register::check::check_asked;
 use register::home::crew_vector;
@@ -41,7 +41,8 @@ ghost use Rattle.shelf.specs.Show.{keptIn, settled};
 ghost use Rattle.shelf.specs.Asks.{Ready};
 ghost use Rattle.register.specs.Calls.{withEntry, versionWords, newStamp, isCurrent, writeBook};
 ghost use Rattle.register.specs.Checks.{MayWrite};
-ghost use Rattle.register.specs.Answers.{cut, writes};
+ghost use Rattle.paper.specs.Answers.{paperWrite};
+ghost use Rattle.register.specs.Answers.{cut, written};
 ghost use Rattle.register.specs.Promises.{Write};
 
 // The crew's vector with the home entry set to the stamp, its first n entries.
@@ -129,7 +130,7 @@ fn stamp_crew(book: &mut [u32], n: usize, c: Crew, d: Depot, s: Shelf, stamp: u3
 }
 
 fn answered(current: bool, stamp: u32) -> WriteAnswer
-    ensures { λ r. ⌜ r ≡ writes stamp current ⌝ }
+    ensures { λ r. ⌜ paperWrite r ≡ written stamp current ⌝ }
 {
     if current {
         return WriteAnswer::Current(stamp);
@@ -149,7 +150,7 @@ fn write_version(
     value: u32,
 ) -> WriteAnswer
     requires { ⌜ MayWrite (now book) (c .0) (k .0) value n (d .0) (s .0) stamp ⌝ }
-    ensures { λ r. ⌜ (r ≡ writes (newStamp (now (book .entry)) (c .0) (k .0)) (isCurrent (now (book .entry)) (c .0) (k .0) value))
+    ensures { λ r. ⌜ (paperWrite r ≡ written (newStamp (now (book .entry)) (c .0) (k .0)) (isCurrent (now (book .entry)) (c .0) (k .0) value))
         × (now (book .exit) ≡ writeBook (now (book .entry)) (c .0) (k .0) value) ⌝ }
 {
     let message = made_copy(book, n, c, k, d, stamp, value);

@@ -1,6 +1,5 @@
 -- `named::arrival_fits` meets its contract: the link, then where its taken copies are stored.
 -- Assumes nothing.
-use Prim.Native.Nat.{ℕ, _≤_}
 use native.Mathlib.Nat.{le-trans}
 use mathlib.Core.Path.{_∙_, sym}
 use denote.Ref.{now}

@@ -7,7 +7,7 @@ use Rattle.book.specs.Layout.{countsOf}
 use Rattle.book.specs.declared.numbers.Crew.{Crew}
 use Rattle.book.specs.declared.numbers.Bearing.{Bearing}
 use Rattle.register.specs.Promises.{Read}
-use Rattle.register.proofs.CallLaws.{bad-asked, good-asked, refused-read, refused-book}
+use Rattle.register.proofs.CallLaws.{bad-asked, good-asked, not-done, read-refused, after-refused}
 use Rattle.register.proofs.SendTable.{read-bad}
 use Rattle.register.proofs.Numbers.{asked-done}
 use borrow.Author.Needs.{needs}
@@ -30,8 +30,9 @@ returns : tie.Need-returns
 returns c =
     let at = c .before .before .before .before in
     let bad = bad-asked _ _ _ _ (at .check-asked .ensures) (c .before .before .r .given .1) in
-    let same = read-bad _ _ _ (bad .0) in
-    record { answer = c .refused .ensures ∙ refused-read _ _ _ same (bad .0) (bad .1); book = refused-book _ _ _ _ same (bad .0) }
+    let e = read-bad _ _ _ (not-done _ bad) ∙ bad in
+    let told = read-refused _ _ (c .refused .ensures) e in
+    record { answer = told .0; holds = told .1; book = after-refused _ _ _ e }
 
 returns-2 : tie.Need-returns-2
 returns-2 c =

@@ -5,24 +5,25 @@ use native.Mathlib.Nat.{lt-of-lt-of-le}
 use native.Mathlib.Omega.{arith}
 use mathlib.Core.Path.{_≡_, _∙_, refl, sym, ap, subst}
 use mathlib.Core.Bool.{true}
+use mathlib.Core.List.{List}
 use denote.Ref.{now}
-use lib.Dec.{lit≤}
 use lib.ListN.{length}
 use Rattle.book.specs.declared.parts.Counts.{Counts}
 use Rattle.book.specs.Layout.{countsOf, home}
 use Rattle.book.proofs.WordsLaws.{part-from, length-part}
-use Rattle.loops.specs.Loops.{pick}
-use Rattle.loops.proofs.BoolLaws.{pick-true, test-passed, test-failed}
-use borrow.Author.Tests.{eq-eqb}
+use Rattle.order.specs.Record.{vectorOf}
+use Rattle.loops.proofs.BoolLaws.{test-passed, test-failed}
 use Rattle.fit.specs.Fit.{Within}
 use Rattle.named.specs.Named.{readParts}
 use Rattle.named.proofs.NamedLaws.{Based, base-open}
-use Rattle.register.specs.declared.answer.ReadAnswer.{ReadAnswer}
-use Rattle.register.specs.Answers.{cut, tells, refusalOf, numbered, numberOf}
-use Rattle.register.proofs.CallLaws.{not-done, refused-read, refused-book, after-done}
+use Rattle.paper.specs.Calls.{reads}
+use Rattle.paper.specs.declared.answer.Refusal.the-variants.{BadBook}
+use Rattle.paper.specs.Answers.{numberOf}
+use Rattle.register.specs.Answers.{cut, told}
+use Rattle.register.proofs.CallLaws.{by-done, after-refused, after-done, read-refused}
 use Rattle.register.proofs.FitReady.{shelf-in}
 use Rattle.register.proofs.SendTable.{read-book, read-good}
-use Rattle.register.proofs.HomeLaws.{home-done, home-ready, parts-home, told-done, merged-done}
+use Rattle.register.proofs.HomeLaws.{home-done, home-ready, parts-home, told-holds, record-read, told-done, merged-done}
 use borrow.Author.Needs.{needs}
 use Rattle.read.proofs.read_at.Statement.{statement}
 use Rattle.read.proofs.read_at.Tie as tie
@@ -85,12 +86,13 @@ read-parts-fit-requires c κs =
     (w .full, subst Within (sym (c .before .before .before .before .counts-of .ensures)) (w .within), h .3, h .2, h .0, h .1)
 
 returns : tie.Need-returns
-unfolding refusalOf numbered numberOf pick
+unfolding numberOf
 returns c =
     let at1 = c .before in
     let start = at1 .before .before .before .before .before .before .before .before .before in
     let e = read-book _ _ _ (start .pre .0) (start .pre .1) (start .pre .2) (test-failed (parts-said (at1 .before)) (at1 .if1 .taken)) in
-    record { answer = c .refused .ensures ∙ refused-read _ 1 _ e (not-done 1 refl (lit≤ tt)) refl; book = refused-book _ 1 _ _ e (not-done 1 refl (lit≤ tt)) }
+    let told = read-refused BadBook _ (c .refused .ensures) e in
+    record { answer = told .0; holds = told .1; book = after-refused BadBook _ _ e }
 
 settle-home-requires : tie.Need-settle-home-requires
 settle-home-requires c κs =
@@ -132,14 +134,14 @@ crew-at-requires : tie.Need-crew-at-requires
 crew-at-requires c κs = small (c .before .before .before .before .before .before .before .before .before .before .before .before .before) .3
 
 merge-requires : tie.Need-merge-requires
-unfolding tells cut
+unfolding cut
 merge-requires c κs =
     let settled = c .before .before .before .before .before .before .before .before .before .before in
     let at = c .before .crew-at in
     let h = small (settled .before .before .before .before .before) in
     let full = settled-full settled in
     let e = at .ensures in
-    let four : length (c .before .before .before .before .tell .result .vector) ≡ 4 = ap (λ (a : ReadAnswer). length (a .vector)) (c .before .before .before .before .tell .ensures) in
+    let four : length (c .before .before .before .before .tell .result .vector) ≡ 4 = ap (λ (v : List ℕ). length v) (c .before .before .before .before .tell .ensures .1 .0) in
     (omega (arith, full, h .3, h .4, e), omega (arith, h .4, four))
 
 returns-2 : tie.Need-returns-2
@@ -153,12 +155,17 @@ returns-2 c =
     let w = base start in
     let done = read-good book (start .args .c .0) (start .args .k .0) (start .pre .0) (start .pre .1) (start .pre .2) (parts-fit (settled .before .before)) in
     let home = home-done book (start .args .c .0) (start .args .k .0) counts depot (settled .before .before .before .before .before .shelf-for .ensures) (settled .settle-home .ensures) in
-    let told = told-done book (start .args .c .0) (start .args .k .0) counts home depot (tell .before .before .before .stored-at .ensures) (tell .tell .ensures) in
+    let found = record-read book (start .args .c .0) (start .args .k .0) counts home depot (tell .before .before .before .stored-at .ensures) in
+    let said = tell .tell .ensures in
+    let answer = told-done book (start .args .c .0) (start .args .k .0) counts home (λ (n : ℕ) (r : List ℕ). reads (told n r)) found (said .0) in
+    let vector = told-done book (start .args .c .0) (start .args .k .0) counts home (λ (n : ℕ) (r : List ℕ). cut n (vectorOf r)) found (said .1 .0) in
+    let depots = told-done book (start .args .c .0) (start .args .k .0) counts home (λ (n : ℕ) (r : List ℕ). n) found (said .1 .1) in
     record {
-      answer = told ∙ sym (pick-true _ _ (eq-eqb _ _ done));
+      answer = answer ∙ by-done done;
+      holds = told-holds _ _ (w .within .depots) answer vector depots;
       book =
-          merged-done book (start .args .c .0) (start .args .k .0) counts home (w .within .depots) (c .before .before .before .before .crew-at .ensures) told (c .before .before .merge .ensures)
-          ∙ after-done _ _ _ done;
+          merged-done book (start .args .c .0) (start .args .k .0) counts home (w .within .depots) (c .before .before .before .before .crew-at .ensures) vector (c .before .before .merge .ensures)
+          ∙ after-done _ _ done;
     }
 
 pub read-at-spec : {M : Type 1} → statement M

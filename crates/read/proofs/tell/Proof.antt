@@ -1,13 +1,17 @@
 -- `register::calls::read::tell` meets its contract: the vector, and whether it is all zeros.
 -- Assumes nothing.
-use mathlib.Core.Path.{_≡_, _∙_, sym}
+use mathlib.Core.Path.{_≡_, _∙_, refl, sym, ap}
+use mathlib.Core.List.{List}
+use Prim.Native.Nat.{ℕ}
 use denote.Ref.{now}
+use lib.ListN.{take}
 use Rattle.order.specs.Record.{valueOf, vectorOf}
 use Rattle.order.specs.Vector.{zeros}
 use Rattle.loops.proofs.BoolLaws.{pick-true, pick-false}
 use Rattle.order.proofs.RecordLaws.{zeros-part}
-use Rattle.register.specs.declared.answer.Finding.{Finding}
-use Rattle.register.specs.Answers.{tells, cut}
+use Rattle.paper.specs.Calls.{reads, read-value, read-unwritten}
+use Rattle.paper.specs.Answers.{paperFound, paperRead}
+use Rattle.register.specs.Answers.{cut, told}
 use Rattle.register.proofs.HomeLaws.{cut-part}
 use borrow.Author.Needs.{needs}
 use Rattle.read.proofs.tell.Statement.{statement}
@@ -21,29 +25,22 @@ said : (c : tie.After-is-zero) → let args = c .before .before .before .before 
 said c = let start = c .before .before .before .before .before in c .is-zero .ensures ∙ zeros-part (start .args .n) (now (start .args .version)) (start .pre .1)
 
 returns : tie.Need-returns
-unfolding tells
+unfolding told paperRead paperFound
 returns c =
     let zero = c .before in
-    let start = zero .before .before .before .before .before in
-    λ z. record {
-      finding = sym
-          (pick-true {A = Finding} Finding.Unwritten (Finding.Value (valueOf (now (start .args .version)))) (sym (said zero) ∙ c .if1 .taken)) z;
-      vector =
-          (vector-said (zero .before .before)) z;
-    }
+    let vector = vector-said (zero .before .before) in
+    let n = zero .before .before .before .before .before .args .n in
+    (ap (λ (v : List ℕ). reads (read-unwritten (take n v))) vector ∙ ap reads (sym (pick-true _ _ (sym (said zero) ∙ c .if1 .taken))), (vector, refl))
 
 returns-2 : tie.Need-returns-2
-unfolding tells
+unfolding told paperRead paperFound
 returns-2 c =
     let at1 = c .before in
     let zero = at1 .before in
-    let start = zero .before .before .before .before .before in
-    λ z. record {
-      finding = sym
-          (pick-false {A = Finding} Finding.Unwritten (Finding.Value (valueOf (now (start .args .version)))) (sym (said zero) ∙ at1 .if1 .left)) z;
-      vector =
-          (vector-said (zero .before .before)) z;
-    }
+    let vector = vector-said (zero .before .before) in
+    let args = zero .before .before .before .before .before .args in
+    let value = valueOf (now (args .version)) in
+    (ap (λ (v : List ℕ). reads (read-value value (take (args .n) v))) vector ∙ ap reads (sym (pick-false _ _ (sym (said zero) ∙ at1 .if1 .left))), (vector, refl))
 
 pub tell-spec : {M : Type 1} → statement M
 tell-spec =

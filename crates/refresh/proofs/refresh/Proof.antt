@@ -1,13 +1,14 @@
 -- `register::calls::refresh::refresh` meets its contract: the shared checks, then the rest.
 -- Assumes nothing.
 use Prim.Native.Nat.{_<_}
-use mathlib.Core.Path.{sym, subst, subst₂}
+use mathlib.Core.Path.{_∙_, sym, subst, subst₂}
 use denote.Ref.{now}
 use Rattle.book.specs.Layout.{countsOf}
 use Rattle.book.specs.declared.numbers.Depot.{Depot}
 use Rattle.book.specs.declared.numbers.Shelf.{Shelf}
+use Rattle.paper.specs.Answers.{paper}
 use Rattle.register.specs.Promises.{Refresh}
-use Rattle.register.proofs.CallLaws.{bad-place, good-place, refused-answer, refused-book}
+use Rattle.register.proofs.CallLaws.{bad-place, good-place, not-done, by-refusal, after-refused}
 use Rattle.register.proofs.Numbers.{place-done}
 use Rattle.register.proofs.SendTable.{refresh-bad}
 use borrow.Author.Needs.{needs}
@@ -27,11 +28,12 @@ refresh-at-requires c κs =
     )
 
 returns : tie.Need-returns
+unfolding paper
 returns c =
     let at = c .before .before .before in
     let bad = bad-place _ _ _ _ (at .check-place .ensures) (c .before .r .given .1) in
-    let same = refresh-bad _ _ _ (bad .0) in
-    record { answer = refused-answer _ _ same (bad .0) (bad .1); book = refused-book _ _ _ _ same (bad .0) }
+    let e = refresh-bad _ _ _ (not-done _ bad) ∙ bad in
+    record { answer = by-refusal _ _ e; book = after-refused _ _ _ e }
 
 returns-2 : tie.Need-returns-2
 returns-2 c =

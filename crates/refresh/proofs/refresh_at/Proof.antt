@@ -2,12 +2,11 @@
 -- Assumes nothing.
 use Prim.Native.Nat.{_≤_}
 use native.Mathlib.Nat.{lt-of-lt-of-le}
-use mathlib.Core.Path.{_≡_, _∙_, refl, sym, ap, subst}
+use mathlib.Core.Path.{_≡_, _∙_, sym, ap, subst}
 use mathlib.Core.Bool.{true}
 use denote.Ref.{now}
-use lib.Dec.{lit≤}
 use lib.ListN.{length}
-use Rattle.loops.specs.Loops.{pick, every}
+use Rattle.loops.specs.Loops.{every}
 use Rattle.order.specs.Vector.{vectorIn}
 use Rattle.loops.proofs.BoolLaws.{and-right, test-passed, test-failed}
 use Rattle.book.specs.declared.parts.Counts.{Counts}
@@ -18,9 +17,10 @@ use Rattle.named.proofs.NamedLaws.{Based, base-open}
 use Rattle.shelf.specs.Asks.{Ready}
 use Rattle.shelf.specs.Show.{settled}
 use Rattle.links.specs.Send.{lowestSeen, fourOf}
-use Rattle.register.specs.Answers.{refusalOf, numbered, numberOf}
+use Rattle.paper.specs.declared.answer.Refusal.the-variants.{BadBook}
+use Rattle.paper.specs.Answers.{numberOf, paper}
 use Rattle.register.specs.Calls.{refreshBook}
-use Rattle.register.proofs.CallLaws.{not-done, refused-answer, refused-book, answer-done, after-done}
+use Rattle.register.proofs.CallLaws.{by-refusal, by-done, after-refused, after-done}
 use Rattle.register.proofs.FitReady.{show-ready}
 use Rattle.register.proofs.HomeLaws.{settled-four}
 use Rattle.register.proofs.SendTable.{refresh-book, refresh-good}
@@ -53,11 +53,11 @@ refresh-parts-fit-requires c κs =
     (w .full, subst Within (sym (c .before .counts-of .ensures)) (w .within), lt-of-lt-of-le (start .pre .1) (w .within .depots), lt-of-lt-of-le (start .pre .2) (w .within .shelves))
 
 returns : tie.Need-returns
-unfolding refusalOf numbered numberOf pick
+unfolding numberOf paper
 returns c =
     let start = c .before .before .before .before .before .before in
     let e = refresh-book _ _ _ (start .pre .0) (start .pre .1) (start .pre .2) (test-failed (parts-said (c .before)) (c .if1 .taken)) in
-    record { answer = refused-answer _ 1 e (not-done 1 refl (lit≤ tt)) refl; book = refused-book _ 1 _ _ e (not-done 1 refl (lit≤ tt)) }
+    record { answer = by-refusal BadBook _ e; book = after-refused BadBook _ _ e }
 
 lowest-seen-requires : tie.Need-lowest-seen-requires
 lowest-seen-requires c κs =
@@ -81,7 +81,7 @@ settle-requires c κs =
     )
 
 returns-2 : tie.Need-returns-2
-unfolding refreshBook
+unfolding refreshBook paper
 returns-2 c =
     let low = c .before .before .before .before .before .lowest-seen in
     let counts = c .before .before .before .before .before .before .before .before .before .before .counts-of .ensures in
@@ -90,12 +90,12 @@ returns-2 c =
     let book = now (args .book) in
     let e = refresh-good _ _ _ (start .pre .0) (start .pre .1) (start .pre .2) (parts-fit (c .before .before .before .before .before .before .before)) in
     record {
-      answer = answer-done _ e;
+      answer = by-done e;
       book = c .before .before .settle .ensures
           ∙ ap (λ (n : Counts). settled (n .depots) (args .d .0) (args .s .0) (vectorIn (low .result)) book) counts
           ∙ settled-four (countsOf book .depots) (args .d .0) (args .s .0) (lowestSeen (countsOf book .depots) (countsOf book .shelves) (args .d .0) book) book (base start .within .depots)
           (low .ensures ∙ ap (λ (n : Counts). fourOf (lowestSeen (n .depots) (n .shelves) (args .d .0) book)) counts)
-          ∙ after-done _ _ _ e;
+          ∙ after-done _ _ e;
     }
 
 pub refresh-at-spec : {M : Type 1} → statement M

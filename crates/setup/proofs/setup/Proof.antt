@@ -4,14 +4,15 @@ use Prim.Native.Nat.{ℕ, _≤_}
 use mathlib.Core.Path.{_≡_, _∙_, refl, sym, ap, subst}
 use mathlib.Core.Bool.{true}
 use denote.Ref.{now}
-use lib.Dec.{ltb, lit≤}
+use lib.Dec.{ltb}
 use lib.ListN.{length, getD}
-use Rattle.loops.specs.Loops.{every, pick}
+use Rattle.loops.specs.Loops.{every}
 use Rattle.loops.proofs.BoolLaws.{test-passed, test-failed}
 use Rattle.book.specs.declared.parts.Counts.{Counts}
 use Rattle.fit.specs.Fit.{countsFit}
 use Rattle.fit.proofs.FitLaws.{counts-within}
-use Rattle.register.specs.Answers.{refusalOf, numbered, numberOf}
+use Rattle.paper.specs.declared.answer.Refusal.the-variants.{BadBook, BadDepot, BadCounts}
+use Rattle.paper.specs.Answers.{numberOf}
 use Rattle.register.proofs.SetupLaws.{setup-book, setup-counts, setup-crews, setup-home, setup-good, setup-refused, setup-done}
 use borrow.Author.Needs.{needs}
 use Rattle.setup.proofs.setup.Statement.{statement}
@@ -28,23 +29,23 @@ counts-said : (c : tie.After-counts-fit) → c .counts-fit .result ≡ countsFit
 counts-said c = c .counts-fit .ensures ∙ ap countsFit (c .before .counts-from .ensures)
 
 returns : tie.Need-returns
-unfolding refusalOf numbered numberOf pick
-returns c = setup-refused _ _ _ 1 (setup-book _ _ _ (c .if1 .taken)) (lit≤ tt) refl refl
+unfolding numberOf
+returns c = setup-refused _ _ _ BadBook (setup-book _ _ _ (c .if1 .taken)) refl
 
 returns-2 : tie.Need-returns-2
-unfolding refusalOf numbered numberOf pick
+unfolding numberOf
 returns-2 c =
     let fits = c .before in
-    setup-refused _ _ _ 11 (setup-counts _ _ _ (fits .before .before .if1 .left) (test-failed (counts-said fits) (c .if2 .taken))) (lit≤ tt) refl refl
+    setup-refused _ _ _ BadCounts (setup-counts _ _ _ (fits .before .before .if1 .left) (test-failed (counts-said fits) (c .if2 .taken))) refl
 
 returns-3 : tie.Need-returns-3
-unfolding refusalOf numbered numberOf pick
+unfolding numberOf
 returns-3 c =
     let fits = c .before .before .before in
-    setup-refused _ _ _ 11
+    setup-refused _ _ _ BadCounts
     (setup-crews _ _ _ (fits .before .before .if1 .left)
     (subst (λ (n : Counts). length (now (fits .before .before .before .before .before .args .homes)) ≡ n .crews → ⊥) (fits .before .counts-from .ensures) (c .if3 .taken)))
-    (lit≤ tt) refl refl
+    refl
 
 -- where the number of homes is that of the crews
 homes-counted : (c : tie.Else3) → length (now (c .before .before .before .before .before .before .before .before .args .homes)) ≡ asked (c .before .before .before .before) .crews
@@ -64,11 +65,11 @@ homes-said c =
     c .are-depots .ensures ∙ ap (λ (n : Counts). every (n .crews) (λ x. ltb (getD (now (made .before .before .before .before .args .homes)) x 0) (n .depots))) (made .counts-from .ensures)
 
 returns-4 : tie.Need-returns-4
-unfolding refusalOf numbered numberOf pick
+unfolding numberOf
 returns-4 c =
     let tested = c .before .before in
     let full = tested .before .before .before .before .before .if1 .left in
-    setup-refused _ _ _ 2 (setup-home _ _ _ full (counts-good tested) (homes-counted tested) (test-failed (homes-said (c .before)) (c .if4 .taken))) (lit≤ tt) refl refl
+    setup-refused _ _ _ BadDepot (setup-home _ _ _ full (counts-good tested) (homes-counted tested) (test-failed (homes-said (c .before)) (c .if4 .taken))) refl
 
 write-fresh-requires : tie.Need-write-fresh-requires
 write-fresh-requires c κs =

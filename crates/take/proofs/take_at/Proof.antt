@@ -3,11 +3,9 @@
 use Prim.Native.Nat.{_≤_, _<_}
 use native.Mathlib.Nat.{lt-of-lt-of-le}
 use native.Mathlib.Omega.{arith}
-use mathlib.Core.Path.{_≡_, _∙_, refl, sym, ap, subst}
+use mathlib.Core.Path.{_≡_, _∙_, sym, ap, subst}
 use mathlib.Core.Bool.{true}
 use denote.Ref.{now}
-use lib.Dec.{lit≤}
-use Rattle.loops.specs.Loops.{pick}
 use Rattle.loops.proofs.BoolLaws.{and-right, test-passed, test-failed}
 use Rattle.book.specs.declared.parts.Counts.{Counts}
 use Rattle.book.specs.Layout.{end, countsOf, seen, linkOf, held, taken}
@@ -15,9 +13,10 @@ use Rattle.fit.specs.Fit.{Within}
 use Rattle.named.specs.Named.{takeParts, takeFit}
 use Rattle.versions.proofs.MessageLaws.{link-head}
 use Rattle.named.proofs.NamedLaws.{Based, base-open}
-use Rattle.register.specs.Answers.{refusalOf, numbered, numberOf}
+use Rattle.paper.specs.declared.answer.Refusal.the-variants.{SameDepot, BadBook, EmptyLink}
+use Rattle.paper.specs.Answers.{numberOf, paper}
 use Rattle.register.specs.Calls.{takeBook}
-use Rattle.register.proofs.CallLaws.{not-done, refused-answer, refused-book, answer-done, after-done}
+use Rattle.register.proofs.CallLaws.{by-refusal, by-done, after-refused, after-done}
 use Rattle.register.proofs.SendTable.{take-self, take-parts, take-book, take-same, take-empty, take-good}
 use borrow.Author.Needs.{needs}
 use Rattle.take.proofs.take_at.Statement.{statement}
@@ -64,12 +63,12 @@ heads c =
     (c .before .before .held-of .ensures ∙ ap (held (now (args .book))) (link .between .ensures), c .taken-of .ensures ∙ ap (taken (now (args .book))) (link .between .ensures))
 
 returns : tie.Need-returns
-unfolding refusalOf numbered numberOf pick
+unfolding numberOf paper
 returns c =
     let pre = c .before .before .before .before .pre in
     let same = sym (c .before .before .index .ensures) ∙ c .if1 .taken ∙ c .before .index2 .ensures in
     let e = take-same _ _ _ _ (take-self _ _ _ _ (pre .0) (pre .1) (pre .2) (pre .3) same) (pre .1) (pre .2) (pre .3) same in
-    record { answer = refused-answer _ 6 e (not-done 6 refl (lit≤ tt)) refl; book = refused-book _ 6 _ _ e (not-done 6 refl (lit≤ tt)) }
+    record { answer = by-refusal SameDepot _ e; book = after-refused SameDepot _ _ e }
 
 counts-of-requires : tie.Need-counts-of-requires
 counts-of-requires c κs = base (c .before .before .before .before .before) .full
@@ -86,11 +85,11 @@ take-parts-fit-requires c κs =
     )
 
 returns-2 : tie.Need-returns-2
-unfolding refusalOf numbered numberOf pick
+unfolding numberOf paper
 returns-2 c =
     let pre = c .before .before .before .before .before .before .before .before .pre in
     let e = take-book _ _ _ _ (pre .0) (pre .1) (pre .2) (pre .3) (other (c .before .before .before .before)) (test-failed (parts-said (c .before)) (c .if2 .taken)) in
-    record { answer = refused-answer _ 1 e (not-done 1 refl (lit≤ tt)) refl; book = refused-book _ 1 _ _ e (not-done 1 refl (lit≤ tt)) }
+    record { answer = by-refusal BadBook _ e; book = after-refused BadBook _ _ e }
 
 between-requires : tie.Need-between-requires
 between-requires c κs = let start = c .before .before .before .before .before .before .before .before in let w = base start in
@@ -103,7 +102,7 @@ taken-of-requires : tie.Need-taken-of-requires
 taken-of-requires c κs = (base (c .before .before .before .before .before .before .before .before .before .before .before .before) .full, small (c .before .before .before))
 
 returns-3 : tie.Need-returns-3
-unfolding refusalOf numbered numberOf pick
+unfolding numberOf paper
 returns-3 c =
     let at2 = c .before .before .before .before .before .before in
     let start = c .before .before .before .before .before .before .before .before .before .before .before .before .before .before in
@@ -113,7 +112,7 @@ returns-3 c =
     let q = linkOf (args .s .0) (args .from .0) (args .d .0) in
     let left : held (now (args .book)) q ≤ taken (now (args .book)) q = omega (arith, c .if3 .taken, numbers .0, numbers .1) in
     let e = take-empty _ _ _ _ (fits at2) (pre .1) (pre .2) (pre .3) (other (at2 .before .before .before .before)) left in
-    record { answer = refused-answer _ 7 e (not-done 7 refl (lit≤ tt)) refl; book = refused-book _ 7 _ _ e (not-done 7 refl (lit≤ tt)) }
+    record { answer = by-refusal EmptyLink _ e; book = after-refused EmptyLink _ _ e }
 
 take-one-requires : tie.Need-take-one-requires
 unfolding takeParts
@@ -135,7 +134,7 @@ take-one-requires c κs =
     )
 
 returns-4 : tie.Need-returns-4
-unfolding takeBook
+unfolding takeBook paper
 returns-4 c =
     let at3 = c .before .before .before .before in
     let at2 = c .before .before .before .before .before .before .before .before .before .before in
@@ -146,7 +145,7 @@ returns-4 c =
     let numbers = heads (at3 .before) in
     let more : taken book (linkOf (args .s .0) (args .from .0) (args .d .0)) < held book (linkOf (args .s .0) (args .from .0) (args .d .0)) = omega (arith, at3 .if3 .left, numbers .0, numbers .1) in
     let e = take-good _ _ _ _ (fits at2) (pre .1) (pre .2) (pre .3) (other (at2 .before .before .before .before)) more in
-    record { answer = answer-done _ e; book = c .before .before .take-one .ensures ∙ after-done _ _ _ e }
+    record { answer = by-done e; book = c .before .before .take-one .ensures ∙ after-done _ _ e }
 
 pub take-at-spec : {M : Type 1} → statement M
 take-at-spec =

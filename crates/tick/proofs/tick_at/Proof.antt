@@ -5,8 +5,6 @@ use native.Mathlib.Nat.{lt-of-lt-of-le}
 use mathlib.Core.Path.{_≡_, _∙_, refl, sym, ap, subst}
 use mathlib.Core.Bool.{true}
 use denote.Ref.{now}
-use lib.Dec.{lit≤}
-use Rattle.loops.specs.Loops.{pick}
 use Rattle.loops.proofs.BoolLaws.{test-passed, test-failed}
 use Rattle.book.specs.declared.parts.Counts.{Counts}
 use Rattle.book.specs.Layout.{end, countsOf, clock}
@@ -15,9 +13,10 @@ use Rattle.named.specs.Named.{tickParts, tickFit}
 use Rattle.named.proofs.NamedLaws.{Based, base-open, tick-named}
 use Rattle.links.specs.Send.{roomy, beat, sent}
 use Rattle.shelf.specs.Asks.{Free}
-use Rattle.register.specs.Answers.{refusalOf, numbered, numberOf}
+use Rattle.paper.specs.declared.answer.Refusal.the-variants.{BadBook, ClockAtEnd, LinkFull}
+use Rattle.paper.specs.Answers.{numberOf, paper}
 use Rattle.register.specs.Calls.{tickBook}
-use Rattle.register.proofs.CallLaws.{not-done, refused-answer, refused-book, answer-done, after-done}
+use Rattle.register.proofs.CallLaws.{by-refusal, by-done, after-refused, after-done}
 use Rattle.register.proofs.FitReady.{roomy-free}
 use Rattle.register.proofs.SendTable.{tick-book, tick-end, tick-full, tick-good}
 use borrow.Author.Needs.{needs}
@@ -63,11 +62,11 @@ tick-parts-fit-requires c κs =
     (w .full, subst Within (sym (c .before .counts-of .ensures)) (w .within), lt-of-lt-of-le (start .pre .1) (w .within .depots), lt-of-lt-of-le (start .pre .2) (w .within .shelves))
 
 returns : tie.Need-returns
-unfolding refusalOf numbered numberOf pick
+unfolding numberOf paper
 returns c =
     let start = c .before .before .before .before .before .before in
     let e = tick-book _ _ _ (start .pre .0) (start .pre .1) (start .pre .2) (test-failed (parts-said (c .before)) (c .if1 .taken)) in
-    record { answer = refused-answer _ 1 e (not-done 1 refl (lit≤ tt)) refl; book = refused-book _ 1 _ _ e (not-done 1 refl (lit≤ tt)) }
+    record { answer = by-refusal BadBook _ e; book = after-refused BadBook _ _ e }
 
 clock-of-requires : tie.Need-clock-of-requires
 clock-of-requires c κs =
@@ -76,11 +75,11 @@ clock-of-requires c κs =
     (w .full, lt-of-lt-of-le (start .pre .1) (w .within .depots), lt-of-lt-of-le (start .pre .2) (w .within .shelves))
 
 returns-2 : tie.Need-returns-2
-unfolding refusalOf numbered numberOf pick
+unfolding numberOf paper
 returns-2 c =
     let start = c .before .before .before .before .before .before .before .before .before in
     let e = tick-end _ _ _ (fits (c .before .before .before)) (start .pre .1) (start .pre .2) (subst (λ (x : ℕ). end ≤ x) (c .before .clock-of .ensures) (c .if2 .taken)) in
-    record { answer = refused-answer _ 10 e (not-done 10 refl (lit≤ tt)) refl; book = refused-book _ 10 _ _ e (not-done 10 refl (lit≤ tt)) }
+    record { answer = by-refusal ClockAtEnd _ e; book = after-refused ClockAtEnd _ _ e }
 
 is-roomy-requires : tie.Need-is-roomy-requires
 is-roomy-requires c κs =
@@ -93,12 +92,12 @@ is-roomy-requires c κs =
     )
 
 returns-3 : tie.Need-returns-3
-unfolding refusalOf numbered numberOf pick
+unfolding numberOf paper
 returns-3 c =
     let at2 = c .before .before .before in
     let start = c .before .before .before .before .before .before .before .before .before .before .before .before in
     let e = tick-full _ _ _ (fits (at2 .before .before .before)) (start .pre .1) (start .pre .2) (early at2) (test-failed (roomy-said (c .before)) (c .if3 .taken)) in
-    record { answer = refused-answer _ 9 e (not-done 9 refl (lit≤ tt)) refl; book = refused-book _ 9 _ _ e (not-done 9 refl (lit≤ tt)) }
+    record { answer = by-refusal LinkFull _ e; book = after-refused LinkFull _ _ e }
 
 send-requires : tie.Need-send-requires
 send-requires c κs =
@@ -111,7 +110,7 @@ send-requires c κs =
     (w .full, refl, subst (λ (n : Counts). Free (n .depots) (start .args .d .0) (start .args .s .0) book) (sym counts) (roomy-free (countsOf book) book (w .within) _ _ (start .pre .1) (start .pre .2) room))
 
 returns-4 : tie.Need-returns-4
-unfolding tickBook
+unfolding tickBook paper
 returns-4 c =
     let at3 = c .before .before .before .before .before in
     let at2 = at3 .before .before .before in
@@ -125,7 +124,7 @@ returns-4 c =
     ∙ ap (λ (n : Counts). sent (n .depots) (args .d .0) (args .s .0) (at2 .before .clock-of .result + 1)
     (beat (at2 .before .clock-of .result + 1)) book) (c .before .before .before .before .before .before .before .before .before .before .before .before .before .before .counts-of .ensures)
     ∙ ap (λ (x : ℕ). sent (countsOf book .depots) (args .d .0) (args .s .0) (x + 1) (beat (x + 1)) book) t in
-    record { answer = answer-done _ e; book = changed ∙ after-done _ _ _ e }
+    record { answer = by-done e; book = changed ∙ after-done _ _ e }
 
 pub tick-at-spec : {M : Type 1} → statement M
 tick-at-spec =

@@ -2,16 +2,17 @@
 -- Assumes nothing.
 use mathlib.Core.Path.{sym}
 use Rattle.loops.proofs.BoolLaws.{pick-true, pick-false}
-use Rattle.register.specs.Answers.{writes}
+use Rattle.paper.specs.Answers.{paperWrite}
+use Rattle.register.specs.Answers.{written}
 use Rattle.write.proofs.answered.Statement.{statement}
 use Rattle.write.proofs.answered.Tie as tie
 
 returns : tie.Need-returns
-unfolding writes
+unfolding paperWrite written
 returns c = sym (pick-true _ _ (c .if1 .taken))
 
 returns-2 : tie.Need-returns-2
-unfolding writes
+unfolding paperWrite written
 returns-2 c = sym (pick-false _ _ (c .if1 .left))
 
 pub answered-spec : {M : Type 1} → statement M

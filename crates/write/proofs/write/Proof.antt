@@ -1,13 +1,14 @@
 -- `register::calls::write::write` meets its contract: the shared checks, then the rest.
 -- Assumes nothing.
 use Prim.Native.Nat.{_<_}
-use mathlib.Core.Path.{sym, subst, subst₂}
+use mathlib.Core.Path.{_∙_, sym, subst, subst₂}
 use denote.Ref.{now}
 use Rattle.book.specs.Layout.{countsOf}
 use Rattle.book.specs.declared.numbers.Crew.{Crew}
 use Rattle.book.specs.declared.numbers.Bearing.{Bearing}
+use Rattle.paper.specs.Answers.{paperWrite}
 use Rattle.register.specs.Promises.{Write}
-use Rattle.register.proofs.CallLaws.{bad-asked, good-asked, refused-write, refused-book}
+use Rattle.register.proofs.CallLaws.{bad-asked, good-asked, not-done, by-refusal, after-refused}
 use Rattle.register.proofs.Numbers.{asked-done}
 use Rattle.register.proofs.SendTable.{write-bad}
 use borrow.Author.Needs.{needs}
@@ -27,11 +28,12 @@ write-at-requires c κs =
     )
 
 returns : tie.Need-returns
+unfolding paperWrite
 returns c =
     let at = c .before .before .before in
     let bad = bad-asked _ _ _ _ (at .check-asked .ensures) (c .before .r .given .1) in
-    let same = write-bad _ _ _ _ (bad .0) in
-    record { answer = refused-write _ _ _ same (bad .0) (bad .1); book = refused-book _ _ _ _ same (bad .0) }
+    let e = write-bad _ _ _ _ (not-done _ bad) ∙ bad in
+    record { answer = by-refusal _ _ e; book = after-refused _ _ _ e }
 
 returns-2 : tie.Need-returns-2
 returns-2 c =

@@ -3,24 +3,22 @@
 use Prim.Native.Nat.{ℕ, _+_, _%_, _≤_, _<_}
 use native.Mathlib.Nat.{lt-of-lt-of-le}
 use native.Mathlib.Omega.{arith}
-use mathlib.Core.Path.{_≡_, _∙_, refl, sym, ap, subst, subst₂}
+use mathlib.Core.Path.{_≡_, _∙_, sym, ap, subst, subst₂}
 use mathlib.Core.Bool.{true}
 use denote.Ref.{now}
-use lib.Dec.{lit≤}
 use lib.ListN.{getD}
-use borrow.Author.Tests.{eq-eqb}
-use Rattle.loops.specs.Loops.{pick}
-use Rattle.loops.proofs.BoolLaws.{pick-true, test-passed, test-failed}
+use Rattle.loops.proofs.BoolLaws.{test-passed, test-failed}
 use Rattle.book.specs.declared.parts.Counts.{Counts}
 use Rattle.book.specs.Layout.{end, countsOf, home, crewVector, clock}
 use Rattle.fit.specs.Fit.{Within}
 use Rattle.named.specs.Named.{writeParts, writeFit}
 use Rattle.named.proofs.NamedLaws.{Based, base-open, write-named}
 use Rattle.links.specs.Send.{roomy}
-use Rattle.register.specs.Answers.{refusalOf, numbered, numberOf}
+use Rattle.paper.specs.declared.answer.Refusal.the-variants.{BadBook, Wait, ClockAtEnd, LinkFull}
+use Rattle.paper.specs.Answers.{numberOf, paperWrite}
 use Rattle.register.specs.Table.{shelfOf}
 use Rattle.register.specs.Checks.{MayWrite}
-use Rattle.register.proofs.CallLaws.{not-done, refused-write, refused-book, after-done}
+use Rattle.register.proofs.CallLaws.{by-refusal, by-done, after-refused, after-done}
 use Rattle.register.proofs.FitReady.{shelf-in}
 use Rattle.register.proofs.HomeLaws.{parts-write}
 use Rattle.register.proofs.SendTable.{write-book, write-wait, write-end, write-full, write-good}
@@ -161,11 +159,11 @@ write-parts-fit-requires c κs =
     (w .full, subst Within (sym (c .before .before .before .before .counts-of .ensures)) (w .within), h .2, h .4, h .0, h .1)
 
 returns : tie.Need-returns
-unfolding refusalOf numbered numberOf pick
+unfolding numberOf paperWrite
 returns c =
     let start = c .before .before .before .before .before .before .before .before .before in
     let e = write-book _ _ _ _ (start .pre .0) (start .pre .1) (start .pre .2) (test-failed (parts-said (c .before)) (c .if1 .taken)) in
-    record { answer = refused-write _ 1 _ e (not-done 1 refl (lit≤ tt)) refl; book = refused-book _ 1 _ _ e (not-done 1 refl (lit≤ tt)) }
+    record { answer = by-refusal BadBook _ e; book = after-refused BadBook _ _ e }
 
 clock-of-requires : tie.Need-clock-of-requires
 clock-of-requires c κs = let h = small (c .before .before .before .before) in (base (c .before .before .before .before .before .before .before .before .before .before) .full, h .0, h .1)
@@ -186,21 +184,21 @@ slice-read-if2 c =
     omega (arith, h .0, h .2, full, c .before .index .ensures, c .before .before .crew-at .ensures)
 
 returns-2 : tie.Need-returns-2
-unfolding refusalOf numbered numberOf pick
+unfolding numberOf paperWrite
 returns-2 c =
     let at = c .before .before in
     let start = at .before .before .before .before .before .before .before .before .before .before .before .before .before in
     let e = write-wait _ _ _ _ (fits (at .before .before .before .before)) (start .pre .1) (start .pre .2) (subst₂ (λ (x y : ℕ). x < y) (clock-said (at .before .before)) (entry-said at) (c .if2 .taken)) in
-    record { answer = refused-write _ 8 _ e (not-done 8 refl (lit≤ tt)) refl; book = refused-book _ 8 _ _ e (not-done 8 refl (lit≤ tt)) }
+    record { answer = by-refusal Wait _ e; book = after-refused Wait _ _ e }
 
 returns-3 : tie.Need-returns-3
-unfolding refusalOf numbered numberOf pick
+unfolding numberOf paperWrite
 returns-3 c =
     let at2 = c .before in
     let at = at2 .before .before in
     let start = at .before .before .before .before .before .before .before .before .before .before .before .before .before in
     let e = write-end _ _ _ _ (fits (at .before .before .before .before)) (start .pre .1) (start .pre .2) (told-no-wait at2) (subst (λ (x : ℕ). end ≤ x) (clock-said (at .before .before)) (c .if3 .taken)) in
-    record { answer = refused-write _ 10 _ e (not-done 10 refl (lit≤ tt)) refl; book = refused-book _ 10 _ _ e (not-done 10 refl (lit≤ tt)) }
+    record { answer = by-refusal ClockAtEnd _ e; book = after-refused ClockAtEnd _ _ e }
 
 is-roomy-requires : tie.Need-is-roomy-requires
 is-roomy-requires c κs =
@@ -209,12 +207,12 @@ is-roomy-requires c κs =
     (base (shelf .before .before .before .before .before .before) .full, h .3, h .0, h .1)
 
 returns-4 : tie.Need-returns-4
-unfolding refusalOf numbered numberOf pick
+unfolding numberOf paperWrite
 returns-4 c =
     let at3 = c .before .before .before in
     let start = at3 .before .before .before .before .before .before .before .before .before .before .before .before .before .before .before .before in
     let e = write-full _ _ _ _ (fits (at3 .before .before .before .before .before .before .before)) (start .pre .1) (start .pre .2) (told-no-wait (at3 .before)) (told-early at3) (test-failed (roomy-said (c .before)) (c .if4 .taken)) in
-    record { answer = refused-write _ 9 _ e (not-done 9 refl (lit≤ tt)) refl; book = refused-book _ 9 _ _ e (not-done 9 refl (lit≤ tt)) }
+    record { answer = by-refusal LinkFull _ e; book = after-refused LinkFull _ _ e }
 
 add-write-version : tie.Need-add-write-version
 add-write-version c = let t = c .before .before .before .before .if3 .left in omega (arith, t)
@@ -226,7 +224,7 @@ returns-5 : tie.Need-returns-5
 returns-5 c =
     let call = c .before .before .write-version in
     let e = may (c .before .before .before .before) .passed in
-    record { answer = call .ensures .0 ∙ sym (pick-true _ _ (eq-eqb _ _ e)); book = call .ensures .1 ∙ after-done _ _ _ e }
+    record { answer = call .ensures .0 ∙ by-done e; book = call .ensures .1 ∙ after-done _ _ e }
 
 pub write-at-spec : {M : Type 1} → statement M
 write-at-spec =

@@ -7,8 +7,8 @@ use lib.ListN.{length, getD, drop}
 use borrow.Author.Needs.{needs}
 use Rattle.line.specs.Grammar.{letter, least, most}
 use Rattle.line.specs.Reading.{numbersIn, counted, reading, lineOf}
-use Rattle.line.specs.declared.reader.Event.{Event}
-use Rattle.line.specs.declared.reader.Event.the-variants.{Setup, Read, Write, Tick, Take, Refresh}
+use Rattle.paper.specs.declared.request.Event.{Event}
+use Rattle.paper.specs.declared.request.Event.the-variants.{Setup, Read, Write, Tick, Take, Refresh}
 use Rattle.line.specs.declared.reader.Line.{Line}
 use Rattle.line.proofs.LineLaws.{no-letter, reading-long, reading-empty, reading-event, reading-other}
 use Rattle.line.proofs.reader.read_line.Statement.{statement}

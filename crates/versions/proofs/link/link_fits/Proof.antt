@@ -2,7 +2,7 @@
 -- Assumes nothing.
 use mathlib.Core.Path.{_∙_, sym}
 use borrow.Author.Tests.{le-leb, lt-leb}
-use Rattle.loops.proofs.BoolLaws.{and-next, and-stop, test-passed, test-failed}
+use Rattle.loops.proofs.BoolLaws.{and-next, and-stop}
 use Rattle.versions.proofs.MessageLaws.{link-heads, link-empty}
 use borrow.Author.Needs.{needs}
 use Rattle.versions.proofs.link.link_fits.Statement.{statement}

@@ -1,0 +1,36 @@
+// The dispatcher: a request is performed by the call that it names.
+use crate::reply::answered;
+use crate::reply::found;
+use crate::reply::wrote;
+use paper::answer::Reply;
+use paper::request::Request;
+use read::read;
+use refresh::refresh;
+use setup::setup;
+use take::take;
+use tick::tick;
+use write::write;
+ghost use Rattle.calls.specs.Performed.{asked, Performed};
+
+// A request, with the homes if it is a setup, is performed on the book and replied to. Any book, any numbers and any homes get a reply.
+pub fn perform(book: &mut [u32], request: Request, homes: &[u32]) -> Reply
+    ensures { λ r. ⌜ Performed (now (book .entry)) (asked request (now (homes .entry))) r (now (book .exit)) ⌝ }
+{
+    match request {
+        Request::Setup {
+            depots,
+            shelves,
+            bearings,
+            crews,
+        } => answered(setup(book, depots, shelves, bearings, crews, homes)),
+        Request::Read { crew, bearing } => found(read(book, crew, bearing)),
+        Request::Write {
+            crew,
+            bearing,
+            value,
+        } => wrote(write(book, crew, bearing, value)),
+        Request::Tick { depot, shelf } => answered(tick(book, depot, shelf)),
+        Request::Take { depot, shelf, from } => answered(take(book, depot, shelf, from)),
+        Request::Refresh { depot, shelf } => answered(refresh(book, depot, shelf)),
+    }
+}

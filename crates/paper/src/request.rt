@@ -1,0 +1,107 @@
+// What is asked: a setup or a call, with its numbers.
+ghost use mathlib.Core.Path.{_≡_};
+ghost use lib.ListN.{getD};
+ghost use Rattle.paper.specs.Requests.{requestIn, homesIn};
+
+// The kinds of request, as the letter of a line names them.
+pub enum Event {
+    Setup,
+    Read,
+    Write,
+    Tick,
+    Take,
+    Refresh,
+}
+
+// A request with its numbers. The homes of a setup stand beside it.
+pub enum Request {
+    Setup {
+        depots: u32,
+        shelves: u32,
+        bearings: u32,
+        crews: u32,
+    },
+    Read {
+        crew: u32,
+        bearing: u32,
+    },
+    Write {
+        crew: u32,
+        bearing: u32,
+        value: u32,
+    },
+    Tick {
+        depot: u32,
+        shelf: u32,
+    },
+    Take {
+        depot: u32,
+        shelf: u32,
+        from: u32,
+    },
+    Refresh {
+        depot: u32,
+        shelf: u32,
+    },
+}
+
+// The number at a place, 0 where there is none.
+fn number_at(numbers: &[u32], i: usize) -> u32
+    ensures { λ r. ⌜ r ≡ getD (now (numbers .entry)) i 0 ⌝ }
+{
+    if i < numbers.len() {
+        return numbers[i];
+    }
+    0
+}
+
+// What an event with its numbers asks.
+pub fn request_of(event: Event, numbers: &[u32]) -> Request
+    ensures { λ r. ⌜ r ≡ requestIn event (now (numbers .entry)) ⌝ }
+{
+    let first = number_at(numbers, 0);
+    let second = number_at(numbers, 1);
+    let third = number_at(numbers, 2);
+    let fourth = number_at(numbers, 3);
+    match event {
+        Event::Setup => Request::Setup {
+            depots: first,
+            shelves: second,
+            bearings: third,
+            crews: fourth,
+        },
+        Event::Read => Request::Read {
+            crew: first,
+            bearing: second,
+        },
+        Event::Write => Request::Write {
+            crew: first,
+            bearing: second,
+            value: third,
+        },
+        Event::Tick => Request::Tick {
+            depot: first,
+            shelf: second,
+        },
+        Event::Take => Request::Take {
+            depot: first,
+            shelf: second,
+            from: third,
+        },
+        Event::Refresh => Request::Refresh {
+            depot: first,
+            shelf: second,
+        },
+    }
+}
+
+// The homes of a setup: the numbers after its four counts.
+pub fn homes_in(numbers: &[u32]) -> &[u32]
+    ensures { λ r. ⌜ now r ≡ homesIn (now (numbers .entry)) ⌝ }
+{
+    let end = numbers.len();
+    if end < 4 {
+        return &numbers[end..];
+    }
+    &numbers[4..]
+}
