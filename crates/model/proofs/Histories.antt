@@ -7,7 +7,6 @@ use mathlib.Core.Logic.{_⊎_, inl, inr, ⊎-elim}
 use mathlib.Core.List.{List, [], _∷_, _++_, List·Memᴰ·not-nil}
 use borrow.Author.Tests.{eq-eqb, ne-eqb}
 use Rattle.order.proofs.BoolLaws.{eq-or-ne, pick-true, pick-false}
-use Rattle.order.proofs.VectorLaws.{zeros-intro}
 use Rattle.model.specs.Parts.{Counts, Write, State, fresh, emptyShelf, unwritten}
 use Rattle.paper.specs.Calls.{Call, read, write, tick, take, refresh}
 use Rattle.model.specs.Calls.{Outcome, made, refusal, acted, step}
@@ -114,7 +113,7 @@ module _ (π : Counts) (homes : List ℕ) where
       sound = record {
         shelf = λ d s hd hs. record {
           covers = λ k x o. omega arith;
-          stores = λ k. inl (zeros-intro (π .depots) _ (λ x hx. refl));
+          stores = λ k. inl refl;
           taken = λ o w o′ m. absurd (List·Memᴰ·not-nil m);
           untaken = λ o w o′ m. absurd (List·Memᴰ·not-nil m);
           top = omega arith;

@@ -8,7 +8,7 @@ use mathlib.Core.List.{List, _∷_, _++_, List·Memᴰ}
 use lib.ListN.{length}
 use Rattle.order.specs.Vector.{covered, zeros}
 use Rattle.order.specs.Order.{above}
-use Rattle.model.specs.Parts.{Counts, Version, Write, rank, stamp, lowest, end, room}
+use Rattle.model.specs.Parts.{Counts, Version, Write, rank, stamp, unwritten, lowest, end, room}
 use Rattle.paper.specs.Calls.{Call, read, write, tick, take, refresh, reads}
 use Rattle.model.specs.Calls.{told, shelfOf}
 use Rattle.model.specs.System.{System, after}
@@ -92,7 +92,7 @@ module _ (π : Counts) (S : System) where
 
   -- the version v of bearing k is unwritten, or one that somebody wrote to that very bearing
   abbrev pub NotInvented : List Call → ℕ → Version → Type 0
-  NotInvented h k v = (zeros (π .depots) (v .vector) ≡ true) ⊎ Made S h (record { bearing = k; version = v })
+  NotInvented h k v = (v ≡ unwritten) ⊎ Made S h (record { bearing = k; version = v })
 
   -- what the call q, done after history h, answers crew c of bearing k: the version v
   pub record ReadAnswers (h : List Call) (q : Call) (c k : ℕ) (v : Version) : Type 0 where
