@@ -8,7 +8,7 @@ use mathlib.Core.List.{List, [], _∷_, _++_, List·Memᴰ·not-nil}
 use borrow.Author.Tests.{eq-eqb, ne-eqb}
 use Rattle.order.proofs.BoolLaws.{eq-or-ne, pick-true, pick-false}
 use Rattle.model.specs.Parts.{Counts, Write, State, fresh, emptyShelf, unwritten}
-use Rattle.paper.specs.Calls.{Call, read, write, tick, take, refresh}
+use Rattle.paper.specs.Calls.{Call, read, write, tick, take, refresh, refused}
 use Rattle.model.specs.Calls.{Outcome, made, refusal, acted, step}
 use Rattle.model.specs.System.{ofModel, after, run}
 use Rattle.model.specs.Demands.{Wrote, MadeAt, now, earlier, Made}
@@ -21,9 +21,9 @@ pub step-done : (π : Counts) (σ : State) (q : Call) → refusal π σ q ≡ 0 
 unfolding step
 step-done π σ q e = pick-true _ _ (eq-eqb (refusal π σ q) 0 e)
 
-pub step-refused : (π : Counts) (σ : State) (q : Call) → (refusal π σ q ≡ 0 → ⊥) → step π σ q .state ≡ σ
+pub step-refused : (π : Counts) (σ : State) (q : Call) → (refusal π σ q ≡ 0 → ⊥) → step π σ q ≡ record { answer = refused (refusal π σ q); state = σ }
 unfolding step
-step-refused π σ q e = ap (λ (o : Outcome). o .state) (pick-false _ _ (ne-eqb (refusal π σ q) 0 e))
+step-refused π σ q e = pick-false _ _ (ne-eqb (refusal π σ q) 0 e)
 
 module _ (π : Counts) (homes : List ℕ) where
   pub run-done : (h : List Call) (q : Call) → refusal π (run π homes h) q ≡ 0 → run π homes (q ∷ h) ≡ acted π (run π homes h) q .state
@@ -32,7 +32,7 @@ module _ (π : Counts) (homes : List ℕ) where
 
   pub run-refused : (h : List Call) (q : Call) → (refusal π (run π homes h) q ≡ 0 → ⊥) → run π homes (q ∷ h) ≡ run π homes h
   unfolding after
-  run-refused h q e = step-refused π (run π homes h) q e
+  run-refused h q e = ap (λ (o : Outcome). o .state) (step-refused π (run π homes h) q e)
 
   pub made-more : {h : List Call} {q : Call} (w : Write) → Made (ofModel π homes) h w → Made (ofModel π homes) (q ∷ h) w
   made-more w m = record { before = m .before; author = m .author; at = earlier (m .at) }

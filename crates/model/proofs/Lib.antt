@@ -13,6 +13,7 @@ pub mod Room
 pub mod Unique
 pub mod Limits
 pub mod Causal
+pub mod Answering
 pub mod Demand2
 pub mod Refreshes
 pub mod Ticks

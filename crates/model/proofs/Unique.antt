@@ -25,7 +25,7 @@ use Rattle.model.proofs.Histories.{made-cases, made-never, inv, history
 
 module _ (π : Counts) (homes : List ℕ) where
   -- what the last call wrote has the new clock of its shelf for its stamp
-  wrote-stamp : {h : List Call} {q : Call} {c : ℕ} {w : Write} → Wrote (ofModel π homes) h q c w
+  pub wrote-stamp : {h : List Call} {q : Call} {c : ℕ} {w : Write} → Wrote (ofModel π homes) h q c w
       → stamp (w .version) ≡ suc (run π homes h .shelf (w .version .origin) (shelfOf π (w .bearing)) .clock)
   unfolding made
   wrote-stamp {h} {q} {c} {w} t = subst (λ (v : Version). stamp v ≡ suc (run π homes h .shelf (v .origin) (shelfOf π (w .bearing)) .clock)) (sym (t .makes .2)) (put-same _ _ _)
