@@ -20,7 +20,7 @@ use Rattle.model.proofs.Answering.{step-number, write-answers}
 
 module _ (π : Counts) (homes : List ℕ) where
   -- the home shelf after a read
-  read-shelf : (h : List Call) (c k : ℕ) → Done (ofModel π homes) h (read c k) → run π homes (read c k ∷ h) .shelf (run π homes h .home c) (shelfOf π k) ≡ homeShelf π c k (run π homes h)
+  pub read-shelf : (h : List Call) (c k : ℕ) → Done (ofModel π homes) h (read c k) → run π homes (read c k ∷ h) .shelf (run π homes h .home c) (shelfOf π k) ≡ homeShelf π c k (run π homes h)
   unfolding acted reading setCrew
   read-shelf h c k e = ap (λ (σ : State). σ .shelf (run π homes h .home c) (shelfOf π k)) (run-done π homes h (read c k) e) ∙ setShelf-here _ _ _ (run π homes h)
 

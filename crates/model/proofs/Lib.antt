@@ -22,6 +22,7 @@ pub mod Waiting
 pub mod Possible
 pub mod Demand3
 pub mod TheDemands
+pub mod Everywhere
 pub mod Transfer
 pub mod Lawful
 pub mod Computed
