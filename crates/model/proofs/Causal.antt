@@ -83,7 +83,7 @@ module _ (π : Counts) (homes : List ℕ) where
     pub past-below : {h : List Call} {c : ℕ} {w : Write} → Past π (ofModel π homes) h c w → (x : ℕ) → w .version .vector x ≤ run π homes h .crew c x
     past-below (wrote t) x = wrote-below t x
     past-below (got t z) x = got-below t x
-    past-below (kept {h = h} {q = q} {c = c} p) x = le-trans (past-below p x) (call-changes π homes u h q .grows .crew c x)
+    past-below (kept p) x = le-trans (past-below p x) (call-changes π homes u _ _ .grows .crew _ x)
     past-below (under p m r) x = le-trans (past-below r x) (le-trans (made-above m x) (past-below p x))
 
     -- what a crew read was made

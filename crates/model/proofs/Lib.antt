@@ -27,4 +27,6 @@ pub mod Transfer
 pub mod Lawful
 pub mod Computed
 pub mod Worked
+pub mod PastWorked
+pub mod RoundsWorked
 pub mod Witnesses
