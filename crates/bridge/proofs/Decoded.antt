@@ -100,7 +100,9 @@ module _ (n : ℕ) where
         ⊎-elim
         (λ (z : zeros n (vectorOf r) ≡ true). version-unwritten r z ∙ sym (version-unwritten s (sym zeros-too ∙ z)))
         (λ (z : zeros n (vectorOf r) ≡ false).
-        version-written r z ∙ (λ i. record { value = e .value i; origin = e .origin i; vector = entries-same r s (e .entries) i }) ∙ sym (version-written s (sym zeros-too ∙ z)))
+        version-written r z
+        ∙ (λ i. record { value = e .value i; origin = e .origin i; vector = entries-same r s (e .entries) i })
+        ∙ sym (version-written s (sym zeros-too ∙ z)))
         (decided (zeros n (vectorOf r)));
     compares = version-above;
   }

@@ -98,7 +98,8 @@ module _ (π : Counts) (homes : List ℕ) (u : SetUp π homes) where
 
     stays : above (π .depots) (rank v) (rank old) ≡ false → above (π .depots) (rank old) (rank v) ≡ true
     stays t = ⊎-elim (λ same. absurd (another same)) (λ a. a)
-        (at-least π homes u (write c k value ∷ h) old (record { bearing = k; version = v }) (record { before = h; author = c; at = now mine }) (record { holds = t })
+        (at-least π homes u (write c k value ∷ h) old (record { bearing = k; version = v })
+        (record { before = h; author = c; at = now mine }) (record { holds = t })
         (⊎-elim inl (λ m. inr (made-more π homes _ m)) was-made))
 
     said : step π σ (write c k value) .answer ≡ pick (above (π .depots) (rank v) (rank old)) (current (stamp v)) (superseded (stamp v))
@@ -120,5 +121,6 @@ module _ (π : Counts) (homes : List ℕ) (u : SetUp π homes) where
     }
 
   pub write-answers : (h : List Call) (q : Call) (c : ℕ) (w : Write) → Wrote (ofModel π homes) h q c w → WriteAnswers π (ofModel π homes) h q c w
-  write-answers h q c w t = subst₂ (λ q v. WriteAnswers π (ofModel π homes) h q c (record { bearing = w .bearing; version = v })) (sym (t .makes .1)) (sym (t .makes .2))
+  write-answers h q c w t = subst₂ (λ q v. WriteAnswers π (ofModel π homes) h q c (record { bearing = w .bearing; version = v }))
+      (sym (t .makes .1)) (sym (t .makes .2))
       (written h c (w .bearing) (t .makes .0) (subst (λ q. refusal π (run π homes h) q ≡ 0) (t .makes .1) (t .passed)))

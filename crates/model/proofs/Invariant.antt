@@ -105,7 +105,8 @@ module _ (π : Counts) where
   stored-rests {d = d} {s = s} z good hd hs k = record {
     depot = hd;
     seen = λ r x hr o. le-trans (z .shelf d s hd hs .covers k x o) (z .stable d s r x hd hs hr o);
-    top = λ x hx. ⊎-elim (λ e. subst (λ (v : Version). v .vector x ≤ end) (sym e) (omega arith)) (λ m. good _ m .rests .top x hx) (z .shelf d s hd hs .stores k);
+    top = λ x hx. ⊎-elim (λ e. subst (λ (v : Version). v .vector x ≤ end) (sym e) (omega arith)) (λ m. good _ m .rests .top x hx)
+        (z .shelf d s hd hs .stores k);
   }
 
   pub merged-rests : {σ : State} {d : ℕ} {u v : Vec} → Rests σ d u → Rests σ d v → Rests σ d (merged u v)

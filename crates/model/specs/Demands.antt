@@ -130,18 +130,21 @@ module _ (π : Counts) (S : System) where
     pub seen-first : (h : List Call) (d s r x : ℕ) → d < π .depots → s < π .shelves → r < π .shelves → x < π .depots → (x ≡ d → ⊥)
         → S .stable (after S h) d s x ≤ S .seen (after S h) d r x
     -- nor is what a shelf has seen above the clock of the shelf that sent it
-    pub sent-first : (h : List Call) (d s x : ℕ) → d < π .depots → s < π .shelves → x < π .depots → (x ≡ d → ⊥) → S .seen (after S h) d s x ≤ S .clock (after S h) x s
+    pub sent-first : (h : List Call) (d s x : ℕ) → d < π .depots → s < π .shelves → x < π .depots → (x ≡ d → ⊥)
+        → S .seen (after S h) d s x ≤ S .clock (after S h) x s
     -- a shelf stores unwritten, or a version that somebody wrote to that very bearing
     pub not-invented : (h : List Call) (d k : ℕ) → d < π .depots → k < π .bearings → NotInvented h k (S .store (after S h) d k)
     -- and a read answers nothing else, and nothing lower than its crew's past
     pub reads : (h : List Call) (q : Call) (c k : ℕ) (v : Version) → Got S h q c k v → ReadAnswers h q c k v
     pub writes : (h : List Call) (q : Call) (c : ℕ) (w : Write) → Wrote S h q c w → WriteAnswers h q c w
     -- a version resting on another is the greater: what was in its author's past when a write was made is below it
-    pub rests-on-lower : (h g : List Call) (b : ℕ) (v w : Write) → MadeAt S h g b v → Past g b w → above (π .depots) (rank (v .version)) (rank (w .version)) ≡ true
+    pub rests-on-lower : (h g : List Call) (b : ℕ) (v w : Write) → MadeAt S h g b v → Past g b w
+        → above (π .depots) (rank (v .version)) (rank (w .version)) ≡ true
     -- a shelf's store, stable vector, seen stamps and clock never go down
     pub store-rises : (l h : List Call) (d k : ℕ) → d < π .depots → k < π .bearings
         → above (π .depots) (rank (S .store (after S h) d k)) (rank (S .store (after S (l ++ h)) d k)) ≡ false
-    pub stable-rises : (l h : List Call) (d s x : ℕ) → d < π .depots → s < π .shelves → x < π .depots → S .stable (after S h) d s x ≤ S .stable (after S (l ++ h)) d s x
+    pub stable-rises : (l h : List Call) (d s x : ℕ) → d < π .depots → s < π .shelves → x < π .depots
+        → S .stable (after S h) d s x ≤ S .stable (after S (l ++ h)) d s x
     pub seen-rises : (l h : List Call) (d s x : ℕ) → d < π .depots → s < π .shelves → x < π .depots → (x ≡ d → ⊥)
         → S .seen (after S h) d s x ≤ S .seen (after S (l ++ h)) d s x
     pub clock-rises : (l h : List Call) (d s : ℕ) → d < π .depots → s < π .shelves → S .clock (after S h) d s ≤ S .clock (after S (l ++ h)) d s
@@ -199,8 +202,8 @@ module _ (π : Counts) (S : System) where
     -- a clock never passes the end
     pub clocks : (h : List Call) (d s : ℕ) → d < π .depots → s < π .shelves → S .clock (after S h) d s ≤ end
     -- no two writes of one depot to one shelf share a stamp
-    pub stamps : (h : List Call) (v w : Write) → Made S h v → Made S h w → v .version .origin ≡ w .version .origin → shelfOf π (v .bearing) ≡ shelfOf π (w .bearing)
-        → stamp (v .version) ≡ stamp (w .version) → v ≡ w
+    pub stamps : (h : List Call) (v w : Write) → Made S h v → Made S h w → v .version .origin ≡ w .version .origin
+        → shelfOf π (v .bearing) ≡ shelfOf π (w .bearing) → stamp (v .version) ≡ stamp (w .version) → v ≡ w
     -- nor do a heartbeat, whose stamp is the clock after its tick, and a later write of its shelf: the write's is above it
     pub beats : (l h : List Call) (d s : ℕ) (q : Call) (c : ℕ) (w : Write) → d < π .depots → s < π .shelves → Done S h (tick d s)
         → Wrote S (l ++ (tick d s ∷ h)) q c w → w .version .origin ≡ d → shelfOf π (w .bearing) ≡ s → S .clock (after S (tick d s ∷ h)) d s < stamp (w .version)
