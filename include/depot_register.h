@@ -20,6 +20,9 @@
 extern "C" {
 #endif
 
+/* The version of the register. This is its one place: the scripts read it here, and the gate holds rust/ and CHANGELOG.md to it. */
+#define DEPOT_REGISTER_VERSION "0.2.0"
+
 #define DEPOT_BOOK_WORDS 16384 /* words of a book */
 #define DEPOT_RECORD_WORDS 9   /* words of a version record */
 #define DEPOT_READ_WORDS 6     /* room that depot_read's answer takes in `out` */

@@ -115,6 +115,6 @@ int main(void) {
     expect(depot_read(book, DEPOT_BOOK_WORDS - 1, MILL_CREW, BEARING, NULL, 0), DEPOT_BAD_BOOK, "short book");
     expect(depot_read(NULL, 0, MILL_CREW, BEARING, NULL, 0), DEPOT_BAD_BOOK, "no book");
     expect(depot_is_fit(book, DEPOT_BOOK_WORDS), 1, "fit");
-    puts("example: all as told");
+    puts("example: all as told, by the depot register " DEPOT_REGISTER_VERSION);
     return 0;
 }

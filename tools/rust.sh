@@ -3,19 +3,39 @@
 #
 #   tools/rust.sh test                 the tests of rust/, the examples in the docs included
 #   tools/rust.sh replay 200000        the straight version against the static library, event by event
-#   tools/rust.sh desk [COMMAND]       target/bin/desk, or what COMMAND starts, on 300,000 lines, a third of them damaged
+#   tools/rust.sh long                 the same with 10,000,000 events, and 1,000,000 damaged lines and books
+#   tools/rust.sh desk [COMMAND]       the desk, or what COMMAND starts, on 300,000 lines, a third of them damaged
 #   tools/rust.sh bench                the tables of docs/SPEED.md
 #   tools/rust.sh example              include/example.c, compiled, linked and run
 #   tools/rust.sh cargo ARGUMENTS      cargo itself, in rust/, with everything set
-#   tools/rust.sh setup                only install what is missing
+#   tools/rust.sh setup                only install what is missing for these
+#   tools/rust.sh emulator             only install the emulator, if this machine needs one
 #
 # The archive is x86-64 on every machine. On x86-64 plain cargo does. On Arm the same x86-64 programs are made by a compiler
 # for x86-64 and run under an emulator; these come from Debian's packages. DEPOT_STATICLIB names another folder for the archive.
 set -euo pipefail
-cd "$(dirname "$0")/.."
-root=$PWD
+unset CDPATH
+self=$(readlink -f -- "${BASH_SOURCE[0]}")
+root=${self%/tools/*}
 
 fail() { echo "rust.sh: $1" >&2; exit 1; }
+
+usage() {
+    sed -n 's/^#define DEPOT_REGISTER_VERSION "\(.*\)"$/depot register \1/p' "$root/include/depot_register.h"
+    sed -n '2,/^[^#]/s/^# \{0,1\}//p' "$self"
+}
+
+case $#:${1-} in
+*:test | *:replay | *:long | *:desk | *:bench | *:cargo | 1:setup | 1:emulator | 1:example) ;;
+1:--help | 1:-h) usage; exit 0 ;;
+0:) usage >&2; exit 2 ;;
+*:setup | *:emulator | *:example) { echo "rust.sh: $1 takes no arguments"; usage; } >&2; exit 2 ;;
+*) { echo "rust.sh: no command $1"; usage; } >&2; exit 2 ;;
+esac
+command=$1
+shift
+if [ -e "$root/target" ]; then locked=$(find "$root/target" -maxdepth 2 ! -writable -print -quit); else locked=$(find "$root" -maxdepth 0 ! -writable); fi
+[ -z "$locked" ] || [ "$command" = setup ] || [ "$command" = emulator ] || fail "$(id -un) cannot write $locked: please use a clone of your own"
 
 # Those of the packages named that are not installed.
 missing() {
@@ -27,21 +47,23 @@ missing() {
 
 # Installs packages, as root. What apt says goes to a log; its end is shown on a failure only.
 install() {
-    local as=() log=$root/target/rust-install.log
+    local as=() log kind=setup
+    [ "$command" != emulator ] || kind=emulator
     command -v apt-get >/dev/null || fail "missing: $*. On a system without apt-get, please install them by hand"
     if [ "$(id -u)" != 0 ]; then
-        command -v sudo >/dev/null || fail "missing: $*. Run once as root: tools/rust.sh setup"
+        command -v sudo >/dev/null || fail "missing: $*. Run once as root: $self $kind"
         as=(sudo)
     fi
-    mkdir -p target
+    log=$(mktemp)
     echo "rust.sh: installing, once: $*" >&2
     {
-        if [ "$machine" = aarch64 ] && ! dpkg --print-foreign-architectures | grep -qx amd64; then
+        if [[ "$*" == *:amd64* ]] && ! dpkg --print-foreign-architectures | grep -qx amd64; then
             "${as[@]}" dpkg --add-architecture amd64
         fi &&
             "${as[@]}" apt-get -o DPkg::Lock::Timeout=300 update &&
             "${as[@]}" env DEBIAN_FRONTEND=noninteractive apt-get -o DPkg::Lock::Timeout=300 install -y --no-install-recommends "$@"
-    } >"$log" 2>&1 || { tail -n 15 "$log" >&2; fail "could not install: $* (all of the log: target/rust-install.log)"; }
+    } >"$log" 2>&1 || { tail -n 15 "$log" >&2; fail "could not install: $* (all of the log: $log)"; }
+    rm -f "$log"
 }
 
 # A program that a package brought, wherever it lies.
@@ -50,34 +72,49 @@ of_package() {
         fail "the package $1 has no program $2"
 }
 
-machine=$(uname -m)
+machine=$(uname -m) lacks=()
 case $machine in
 x86_64)
-    if ! command -v cargo >/dev/null || ! command -v cc >/dev/null; then
-        install cargo-web rustc-web gcc libc6-dev
-    fi
-    cargo=cargo cc=cc runner=()
+    [ "$command" != emulator ] || exit 0
+    command -v cargo >/dev/null || lacks+=(cargo-web rustc-web)
+    command -v cc >/dev/null || lacks+=(gcc libc6-dev)
     ;;
 aarch64)
-    command -v dpkg-query >/dev/null || fail "on Arm the x86-64 compiler and the emulator come from Debian's packages, and dpkg is missing"
-    read -ra lacks <<<"$(missing rustc-web cargo-web libstd-rust-web-dev:amd64 gcc-x86-64-linux-gnu libc6-dev-amd64-cross qemu-user | tr '\n' ' ')"
-    [ ${#lacks[@]} = 0 ] || install "${lacks[@]}"
+    command -v qemu-x86_64 >/dev/null || lacks+=(qemu-user)
+    if [ "$command" != emulator ]; then
+        command -v dpkg-query >/dev/null || fail "on Arm the x86-64 compilers come from Debian's packages, and dpkg is missing"
+        mapfile -t -O "${#lacks[@]}" lacks < <(missing rustc-web cargo-web libstd-rust-web-dev:amd64 gcc-x86-64-linux-gnu libc6-dev-amd64-cross)
+    fi
+    ;;
+*) fail "the archive is x86-64, and this machine, $machine, is neither x86-64 nor aarch64" ;;
+esac
+[ ${#lacks[@]} = 0 ] || install "${lacks[@]}"
+case $command in setup | emulator) exit 0 ;; esac
+
+cargo=cargo cc=cc runner=()
+if [ "$machine" = aarch64 ]; then
     cargo=$(of_package cargo-web cargo) RUSTC=$(of_package rustc-web rustc) RUSTDOC=$(of_package rustc-web rustdoc)
     cc=x86_64-linux-gnu-gcc runner=(qemu-x86_64)
     export RUSTC RUSTDOC CARGO_BUILD_TARGET=x86_64-unknown-linux-gnu
     export CARGO_TARGET_X86_64_UNKNOWN_LINUX_GNU_LINKER=$cc CARGO_TARGET_X86_64_UNKNOWN_LINUX_GNU_RUNNER=${runner[0]}
-    ;;
-*) fail "the archive is x86-64, and this machine, $machine, is neither x86-64 nor aarch64" ;;
-esac
+fi
 export CARGO_TARGET_DIR=$root/target/rust CARGO_NET_OFFLINE=true
-export DEPOT_STATICLIB=${DEPOT_STATICLIB:-$root/target/staticlib}
+own=$root/target/staticlib
+DEPOT_STATICLIB=$(realpath -ms -- "${DEPOT_STATICLIB:-$own}")
+export DEPOT_STATICLIB
 
-# The archive, made if it is not there.
+# The archive. The repository's own is made if it is not there, or if code is newer.
 archive() {
-    [ ! -f "$DEPOT_STATICLIB/libexport.a" ] || return 0
-    [ "$DEPOT_STATICLIB" = "$root/target/staticlib" ] || fail "no libexport.a in $DEPOT_STATICLIB"
-    command -v rt >/dev/null || fail "no target/staticlib/libexport.a, and rt, which makes it, is not on the path"
-    rt staticlib export >&2 || fail "rt staticlib export made no archive"
+    local archive=$DEPOT_STATICLIB/libexport.a newer=
+    if [ "$DEPOT_STATICLIB" != "$own" ]; then
+        [ -f "$archive" ] || fail "no libexport.a in $DEPOT_STATICLIB"
+        return
+    fi
+    [ ! -f "$archive" ] || newer=$(find "$root"/crates/*/src -name '*.rt' -newer "$archive" -print -quit)
+    if [ -f "$archive" ] && [ -z "$newer" ]; then return; fi
+    command -v rt >/dev/null || fail "target/staticlib/libexport.a is not there or is older than the code, and rt, which makes it, is not on the path"
+    echo "rust.sh: making target/staticlib/libexport.a" >&2
+    (cd "$root" && rt staticlib export) >&2 || fail "rt staticlib export made no archive"
 }
 
 # A program of rust/, optimised.
@@ -85,30 +122,25 @@ run() {
     local program=$1
     shift
     archive
-    "$cargo" run --manifest-path rust/Cargo.toml --quiet --release --package "$program" -- "$@"
+    "$cargo" run --manifest-path "$root/rust/Cargo.toml" --quiet --release --package "$program" -- "$@"
 }
 
-[ $# -ge 1 ] || fail "which? $(sed -n 's/^#   tools\/rust.sh \([a-z]*\).*/\1/p' "$0" | tr '\n' ' ')"
-command=$1
-shift
 case $command in
-setup) ;;
 test)
     archive
     # From 1.89 on cargo runs the examples of the docs under the emulator too.
     release=$("$cargo" --version | cut -d. -f2)
     [ "$machine" = x86_64 ] || [ "$release" -ge 89 ] || fail "$("$cargo" --version) is older than 1.89: upgrade cargo-web and rustc-web"
-    "$cargo" test --manifest-path rust/Cargo.toml --quiet --release --workspace "$@"
+    "$cargo" test --manifest-path "$root/rust/Cargo.toml" --quiet --release --workspace "$@"
     ;;
 replay) run replay "$@" ;;
+long) run replay --long "$@" ;;
 desk)
-    if [ $# = 0 ]; then
-        [ -x target/bin/desk ] || fail "no target/bin/desk; rt check desk makes it"
-        set -- "${runner[@]}" target/bin/desk
-    fi
-    run replay --lines target/desk 300000
-    "$@" <target/desk/desk.in >target/desk/desk.got || fail "the desk ended with status $?"
-    cmp target/desk/desk.out target/desk/desk.got || fail "the desk answers otherwise: target/desk/desk.got, and not desk.out"
+    [ $# != 0 ] || set -- "$root/tools/desk.sh"
+    lines=$root/target/desk
+    run replay --lines "$lines" 300000
+    "$@" <"$lines/desk.in" >"$lines/desk.got" || fail "the desk ended with status $?"
+    cmp "$lines/desk.out" "$lines/desk.got" || fail "the desk answers otherwise: target/desk/desk.got, and not desk.out"
     echo "desk: every answer to the byte"
     ;;
 bench)
@@ -117,14 +149,13 @@ bench)
     ;;
 example)
     archive
-    mkdir -p target/c
-    "$cc" -std=c99 -Wall -Wextra -Werror -pedantic -O2 -Iinclude include/example.c "$DEPOT_STATICLIB/libexport.a" -o target/c/example ||
+    mkdir -p "$root/target/c"
+    "$cc" -std=c99 -Wall -Wextra -Werror -pedantic -O2 -I"$root/include" "$root/include/example.c" "$DEPOT_STATICLIB/libexport.a" -o "$root/target/c/example" ||
         fail "include/example.c does not compile or link"
-    "${runner[@]}" target/c/example
+    "${runner[@]}" "$root/target/c/example"
     ;;
 cargo)
-    cd rust
+    cd "$root/rust"
     "$cargo" "$@"
     ;;
-*) fail "no command $command; see the head of tools/rust.sh" ;;
 esac

@@ -1,19 +1,18 @@
 -- Two parts that differ lie apart: the one lemma on disjoint places. So a part that was written reads back, and every other part stays.
 -- The regions of the book stand in a row, which is one computed test; within a region the strides keep the parts apart.
 -- Assumes nothing.
-use Prim.Native.Nat.{ℕ, zero, suc, _+_, _*_, _≤_, _<_}
+use Prim.Native.Nat.{ℕ, suc, _+_, _*_, _≤_, _<_}
 use native.Mathlib.Nat.{le-trans, mul-suc, mul-le-mul-left}
 use native.Mathlib.Omega.{arith}
-use mathlib.Core.Path.{_≡_, refl, sym, _∙_, ap, ap₂, subst}
+use mathlib.Core.Path.{_≡_, refl, sym, _∙_, ap, subst}
 use mathlib.Core.Logic.{_⊎_, inl, inr, ⊎-elim}
 use mathlib.Core.List.{List, [], _∷_}
-use mathlib.Core.Bool.{true}
 use lib.Dec.{leb}
 use lib.ListN.{length, getD}
 use borrow.Author.Tests.{leb-true}
-use Rattle.order.specs.Loops.{every}
-use Rattle.order.proofs.BoolLaws.{le-or-lt, eq-or-ne}
-use Rattle.order.proofs.LoopLaws.{every-at}
+use Rattle.loops.specs.Loops.{every}
+use Rattle.loops.proofs.BoolLaws.{le-or-lt, eq-or-ne}
+use Rattle.loops.proofs.LoopLaws.{every-at}
 use Rattle.book.specs.Words.{part, put, Apart}
 use Rattle.book.specs.Layout.{bookWords}
 use Rattle.book.specs.Parts.{Part, aCount, aHome, aCrew, aClock, aStable, aSeen, aHead, aSlot, aStored, placeOf, sizeOf, InBook, readPart, writePart}

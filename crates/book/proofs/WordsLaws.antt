@@ -10,7 +10,7 @@ use mathlib.Core.Logic.{_⊎_, inl, inr}
 use mathlib.Core.List.{List, [], _∷_, _++_}
 use lib.ListN.{length, getD, take, drop, set, replicate, length-take, length-drop, length-set, length-replicate, replicate-append-replicate}
 use lib.Seq.{sets, length-sets, getD-take, getD-drop, getD-set-same, getD-set-other, take-suc, length-take-le, take-take, take-nil, drop-drop, ext-getD}
-use Rattle.order.proofs.BoolLaws.{le-or-lt}
+use Rattle.loops.proofs.BoolLaws.{le-or-lt}
 use Rattle.book.specs.Words.{part, put, Apart, Forward}
 
 module _ (l : List ℕ) where

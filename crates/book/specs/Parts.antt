@@ -1,6 +1,6 @@
 -- The parts of a book: what a writer writes and a reader reads, each at its place of the layout.
 -- Assumes nothing.
-use Prim.Native.Nat.{ℕ, _+_, _<_}
+use Prim.Native.Nat.{ℕ, _<_}
 use mathlib.Core.List.{List}
 use Rattle.order.specs.Record.{mostDepots, recordWords}
 use Rattle.book.specs.Words.{part, put}

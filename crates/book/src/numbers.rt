@@ -4,7 +4,7 @@
 ghost use mathlib.Core.Path.{_≡_};
 ghost use Prim.Native.Nat.{_<_};
 ghost use lib.Dec.{ltb};
-ghost use Rattle.order.specs.Loops.{pick};
+ghost use Rattle.loops.specs.Loops.{pick};
 
 // A depot of a register.
 pub struct Depot(usize);

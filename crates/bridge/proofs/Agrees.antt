@@ -7,7 +7,7 @@ use mathlib.Core.Bool.{true}
 use mathlib.Core.List.{List}
 use borrow.Author.Tests.{lt-ltb, eq-eqb}
 use Rattle.order.specs.Vector.{Vec}
-use Rattle.order.proofs.BoolLaws.{and-intro, pick-true}
+use Rattle.loops.proofs.BoolLaws.{and-intro, pick-true}
 use Rattle.book.specs.Layout.{home, crewVector, clock, stable, seen, linkOf, held, stored}
 use Rattle.fit.specs.Fit.{fit}
 use Rattle.register.specs.Calls.{readRecord, madeRecord}

@@ -8,7 +8,7 @@ use mathlib.Core.List.{List}
 use lib.Dec.{eqb}
 use lib.ListN.{getD}
 use borrow.Author.Tests.{eqb-true}
-use Rattle.order.specs.Loops.{pick}
+use Rattle.loops.specs.Loops.{pick}
 use Rattle.fit.specs.Fit.{fit}
 use Rattle.shelf.proofs.FrameLaws.{pick-cases}
 use Rattle.register.specs.Promises.{after}

@@ -9,7 +9,7 @@ use mathlib.Core.Bool.{Bool, true, false, _||_, true≢false}
 use mathlib.Core.List.{List, [], _∷_, _++_}
 use lib.Dec.{ltb}
 use lib.ListN.{length, getD, length-append}
-use Rattle.order.specs.Loops.{pick}
+use Rattle.loops.specs.Loops.{pick}
 use Rattle.order.specs.Vector.{Vec}
 use Rattle.model.specs.Parts.{Version, Write, Message, Shelf, State}
 use Rattle.bridge.specs.View.{entriesAt, listed}

@@ -8,7 +8,7 @@ use mathlib.Core.Bool.{true}
 use mathlib.Core.List.{List, [], _∷_}
 use lib.Dec.{eqb}
 use borrow.Author.Tests.{eq-eqb}
-use Rattle.order.proofs.BoolLaws.{pick-true}
+use Rattle.loops.proofs.BoolLaws.{pick-true}
 use Rattle.order.proofs.VectorLaws.{length-merged, merged-other}
 use Rattle.book.specs.declared.parts.Counts.{Counts}
 use Rattle.book.specs.Layout.{storedAt, crewAt, countsOf, home, stored}

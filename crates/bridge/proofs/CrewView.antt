@@ -10,10 +10,10 @@ use lib.Dec.{eqb, ltb}
 use lib.ListN.{length, getD, take, length-take, List·getD-append}
 use lib.Seq.{ext-getD, getD-take, getD-at}
 use borrow.Author.Tests.{lt-ltb, ltb-true, eqb-true, eqb-false}
-use Rattle.order.specs.Loops.{pick}
+use Rattle.loops.specs.Loops.{pick}
 use Rattle.order.specs.Vector.{Vec, zeros}
 use Rattle.order.specs.Record.{vectorOf}
-use Rattle.order.proofs.BoolLaws.{decided, pick-true, pick-false, eq-or-ne}
+use Rattle.loops.proofs.BoolLaws.{decided, pick-true, pick-false, eq-or-ne}
 use Rattle.book.specs.Layout.{crewAt, clockAt, stableAt, seenAt, storedAt, linkOf, heldAt, takenAt, slotAt, slot}
 use Rattle.shelf.proofs.FrameLaws.{Off, part-off}
 use Rattle.register.specs.Answers.{cut, tells}

@@ -8,11 +8,11 @@ use mathlib.Core.Bool.{Bool, true, false}
 use mathlib.Core.List.{List, [], _∷_, _++_, map}
 use lib.Dec.{ltb}
 use borrow.Author.Tests.{lt-ltb, le-ltb, ltb-true}
-use Rattle.order.specs.Loops.{pick}
+use Rattle.loops.specs.Loops.{pick}
 use Rattle.order.specs.Vector.{Vec, covered, zeros}
 use Rattle.order.specs.Order.{above}
 use Rattle.order.specs.Record.{valueOf, originOf, vectorOf, rankOf}
-use Rattle.order.proofs.BoolLaws.{decided, pick-true, pick-false}
+use Rattle.loops.proofs.BoolLaws.{decided, pick-true, pick-false}
 use Rattle.order.proofs.VectorLaws.{covered-same, zeros-same, zeros-at}
 use Rattle.order.proofs.OrderLaws.{above-unwritten, above-written, above-cong}
 use Rattle.book.specs.Layout.{held, taken, slot, recordOf}
@@ -20,7 +20,7 @@ use Rattle.shelf.proofs.SlotLaws as slotted
 use Rattle.shelf.proofs.ShowLaws.{takenSlots, untakenSlots}
 use Rattle.model.specs.Parts.{Version, rank, unwritten, greater}
 use Rattle.model.specs.Rules.{clear}
-use Rattle.bridge.specs.View.{entriesAt, versionOf, SameVersion, VersionKept, writeOf, messageOf, listed, takenOn, untakenOn}
+use Rattle.bridge.specs.View.{entriesAt, versionOf, VersionKept, writeOf, messageOf, listed, takenOn, untakenOn}
 use Rattle.bridge.proofs.Basics.{pick-then}
 
 -- ---- a record

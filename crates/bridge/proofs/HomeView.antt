@@ -8,7 +8,7 @@ use mathlib.Core.List.{List}
 use lib.ListN.{length, getD}
 use borrow.Author.Tests.{lt-ltb, eq-eqb}
 use Rattle.order.specs.Vector.{Vec}
-use Rattle.order.proofs.BoolLaws.{and-intro, pick-true}
+use Rattle.loops.proofs.BoolLaws.{and-intro, pick-true}
 use Rattle.book.specs.Layout.{home, crewVector, stored}
 use Rattle.fit.specs.Fit.{fit}
 use Rattle.shelf.proofs.ShowFrame.{length-settled}

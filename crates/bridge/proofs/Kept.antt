@@ -9,7 +9,7 @@ use mathlib.Core.List.{List, []}
 use lib.Dec.{eqb, ltb}
 use lib.ListN.{length, getD}
 use borrow.Author.Tests.{ltb-true}
-use Rattle.order.proofs.BoolLaws.{and-left, and-right}
+use Rattle.loops.proofs.BoolLaws.{and-left, and-right}
 use Rattle.book.specs.Layout.{homeAt, crewAt, clockAt, stableAt, seenAt, linkOf, heldAt, takenAt, slotAt, storedAt, held, taken, slot, recordOf}
 use Rattle.shelf.proofs.FrameLaws.{part-off}
 use Rattle.model.specs.Parts.{Counts, Shelf, other, unwritten, emptyShelf, setShelf}
@@ -100,7 +100,7 @@ module _ (π : Counts) (l m : List ℕ) (size : length m ≡ length l) where
   view-shelf d s h w kd ks here there crews =
       state-path
       (setShelf-all (λ e r g. viewBy π m .shelf e r ≡ g) d s h (viewBy π l)
-      (Rattle.order.proofs.BoolLaws.pick-true _ _ (Rattle.order.proofs.BoolLaws.and-intro (borrow.Author.Tests.lt-ltb d _ kd) (borrow.Author.Tests.lt-ltb s _ ks)) ∙ here)
+      (Rattle.loops.proofs.BoolLaws.pick-true _ _ (Rattle.loops.proofs.BoolLaws.and-intro (borrow.Author.Tests.lt-ltb d _ kd) (borrow.Author.Tests.lt-ltb s _ ks)) ∙ here)
       (λ e r apart. pick-then (ltb e (π .depots) && ltb r (π .shelves)) emptyShelf
       (λ t. there e r (ltb-true _ _ (and-left _ _ t)) (ltb-true _ _ (and-right (ltb e (π .depots)) _ t)) apart)))
       (crews-kept (w .depots) (w .crews) (λ j a b. crews j (omega arith) (omega arith)))

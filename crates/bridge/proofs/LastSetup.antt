@@ -5,7 +5,7 @@ use mathlib.Core.Path.{_≡_, refl, sym, _∙_, ap, subst}
 use mathlib.Core.Logic.{_⊎_, inl, inr, ⊎-elim}
 use mathlib.Core.List.{List, [], _∷_}
 use borrow.Author.Tests.{eq-eqb}
-use Rattle.order.proofs.BoolLaws.{pick-true, eq-or-ne}
+use Rattle.loops.proofs.BoolLaws.{pick-true, eq-or-ne}
 use Rattle.book.specs.declared.parts.Counts.{Counts}
 use Rattle.register.specs.Calls.{setUp}
 use Rattle.register.specs.Promises as promises

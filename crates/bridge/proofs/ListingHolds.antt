@@ -7,8 +7,8 @@ use mathlib.Core.List.{List, _∷_, map}
 use lib.Dec.{lit≤}
 use lib.ListN.{length}
 use borrow.Author.Tests.{eq-eqb}
-use Rattle.order.specs.Loops.{pick, every}
-use Rattle.order.proofs.BoolLaws.{pick-true}
+use Rattle.loops.specs.Loops.{pick, every}
+use Rattle.loops.proofs.BoolLaws.{pick-true}
 use Rattle.book.specs.Layout.{bookWords, stable}
 use Rattle.fit.specs.Fit.{between, countsFit}
 use Rattle.register.specs.Answers.{answerOf}

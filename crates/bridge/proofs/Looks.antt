@@ -9,10 +9,10 @@ use mathlib.Core.List.{List}
 use lib.Dec.{eqb, ltb, leb}
 use lib.ListN.{length}
 use borrow.Author.Tests.{lt-ltb, ltb-true, eqb-true, eqb-false, le-leb, lt-leb}
-use Rattle.order.proofs.BoolLaws.{and-intro, or-cases, pick-true, le-or-lt}
-use Rattle.order.proofs.LoopLaws.{every-at, every-same}
+use Rattle.loops.proofs.BoolLaws.{and-intro, or-cases, pick-true, le-or-lt}
+use Rattle.loops.proofs.LoopLaws.{every-at, every-same}
 use Rattle.book.specs.Layout.{linkRoom, crewAt, linkOf, home, held, taken}
-use Rattle.shelf.specs.Send.{roomy}
+use Rattle.links.specs.Send.{roomy}
 use Rattle.model.specs.Parts.{Counts, Write, Message, room}
 use Rattle.model.specs.Rules as rules
 use Rattle.model.specs.Calls.{none}

@@ -11,10 +11,10 @@ use mathlib.Core.List.{List, _∷_}
 use lib.Dec.{ltb}
 use lib.ListN.{length, getD}
 use borrow.Author.Tests.{ltb-true, ltb-false, ne-eqb, eq-eqb}
-use Rattle.order.specs.Loops.{pick}
+use Rattle.loops.specs.Loops.{pick}
 use Rattle.order.specs.Vector.{Vec, zeros}
 use Rattle.order.specs.Record.{vectorOf}
-use Rattle.order.proofs.BoolLaws.{decided, pick-true, pick-false, eq-or-ne}
+use Rattle.loops.proofs.BoolLaws.{decided, pick-true, pick-false, eq-or-ne}
 use Rattle.order.proofs.VectorLaws.{written-at}
 use Rattle.book.specs.Layout.{copyKind, clockAt, stableAt, home, clock, stored, recordOf}
 use Rattle.fit.specs.Fit.{fit}

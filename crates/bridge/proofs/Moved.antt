@@ -10,8 +10,8 @@ use mathlib.Core.List.{List, []}
 use lib.Dec.{eqb}
 use lib.ListN.{length, getD}
 use borrow.Author.Tests.{eqb-true, eqb-false}
-use Rattle.order.specs.Loops.{pick}
-use Rattle.order.proofs.BoolLaws.{decided, pick-true, pick-false, eq-or-ne}
+use Rattle.loops.specs.Loops.{pick}
+use Rattle.loops.proofs.BoolLaws.{decided, pick-true, pick-false, eq-or-ne}
 use Rattle.book.specs.Layout.{clockAt, stableAt, seenAt, linkOf, heldAt, slotAt, storedAt, taken}
 use Rattle.shelf.proofs.FrameLaws.{Off}
 use Rattle.model.specs.Parts.{Counts, Write, Message, Shelf, put, setShelf, other}

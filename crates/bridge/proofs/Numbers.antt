@@ -7,12 +7,12 @@ use mathlib.Core.Bool.{Bool, true, false, not, _||_, false≢true}
 use mathlib.Core.List.{List}
 use lib.Dec.{eqb, ltb, leb}
 use borrow.Author.Tests.{leb-false, lt-ltb, eqb-false}
-use Rattle.order.specs.Loops.{pick}
-use Rattle.order.proofs.BoolLaws.{pick-true, pick-false}
+use Rattle.loops.specs.Loops.{pick}
+use Rattle.loops.proofs.BoolLaws.{pick-true, pick-false}
 use Rattle.paper.specs.Calls.{Call, read, write, tick, take, refresh, first, answerBy}
 use Rattle.book.specs.Layout.{home, crewVector, clock}
 use Rattle.fit.specs.Fit.{fit}
-use Rattle.fit.proofs.NamedLaws.{fit-tick, fit-take, fit-refresh, fit-read, fit-write}
+use Rattle.named.proofs.NamedLaws.{fit-tick, fit-take, fit-refresh, fit-read, fit-write}
 use Rattle.register.specs.Table as table
 use Rattle.model.specs.Parts.{Counts, Shelf, State, end}
 use Rattle.model.specs.Calls as calls

@@ -10,7 +10,7 @@ use lib.Dec.{ltb}
 use borrow.Author.Tests.{ltb-true, ltb-false}
 use Rattle.order.specs.Vector.{Vec, merged}
 use Rattle.order.specs.Record.{vectorOf}
-use Rattle.order.proofs.BoolLaws.{decided, pick-true, pick-false}
+use Rattle.loops.proofs.BoolLaws.{decided, pick-true, pick-false}
 use Rattle.order.proofs.VectorLaws.{length-merged, merged-other, merged-entry}
 use Rattle.book.specs.Layout.{crewAt, home}
 use Rattle.fit.specs.Fit.{fit}

@@ -5,11 +5,11 @@ use native.Mathlib.Omega.{arith}
 use mathlib.Core.Path.{_≡_, refl, sym, _∙_, ap}
 use mathlib.Core.Bool.{true}
 use mathlib.Core.List.{List}
-use Rattle.order.proofs.BoolLaws.{pick-true}
-use Rattle.order.proofs.LoopLaws.{times-same}
+use Rattle.loops.proofs.BoolLaws.{pick-true}
+use Rattle.loops.proofs.LoopLaws.{times-same}
 use Rattle.book.specs.Layout.{seen}
 use Rattle.fit.specs.Fit.{fit}
-use Rattle.shelf.specs.Send as words
+use Rattle.links.specs.Send as words
 use Rattle.register.specs.Table.{refreshNumber}
 use Rattle.register.specs.Calls.{refreshBook}
 use Rattle.register.specs.Promises.{Refresh}

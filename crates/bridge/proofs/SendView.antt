@@ -10,12 +10,12 @@ use mathlib.Core.List.{List, [], _∷_, _++_, map}
 use lib.Dec.{ltb}
 use lib.ListN.{length, getD}
 use borrow.Author.Tests.{ltb-true}
-use Rattle.order.proofs.BoolLaws.{and-left, and-right, eq-or-ne}
+use Rattle.loops.proofs.BoolLaws.{and-left, and-right, eq-or-ne}
 use Rattle.book.specs.Layout.{clockAt, stableAt, linkOf, clock, held, taken, recordOf}
-use Rattle.shelf.specs.Send.{sent}
-use Rattle.shelf.proofs.SendFrame.{OffOut, Free, length-sent, sent-off}
+use Rattle.links.specs.Send.{sent}
+use Rattle.links.proofs.SendFrame.{OffOut, Free, length-sent, sent-off}
 use Rattle.shelf.proofs.ShowLaws.{untakenSlots}
-use Rattle.shelf.proofs.SentLaws.{sent-clock, sent-copies, sent-waiting}
+use Rattle.links.proofs.SentLaws.{sent-clock, sent-copies, sent-waiting}
 use Rattle.model.specs.Parts.{Counts, Message, Shelf, other, emptyShelf, setShelf}
 use Rattle.model.specs.Rules.{ticked, receiving, emit, send}
 use Rattle.model.proofs.Places.{Other, other-true, put-other, setShelf-all, emit-all}

@@ -10,9 +10,9 @@ use mathlib.Core.List.{List, [], map}
 use lib.Dec.{eqb, ltb}
 use lib.ListN.{length, getD}
 use borrow.Author.Tests.{lt-ltb, ltb-true, ltb-false, eq-eqb, ne-eqb}
-use Rattle.order.specs.Loops.{times, pick}
+use Rattle.loops.specs.Loops.{times, pick}
 use Rattle.order.specs.Vector.{Vec}
-use Rattle.order.proofs.BoolLaws.{decided, failed, and-left, pick-true, pick-false, eq-or-ne}
+use Rattle.loops.proofs.BoolLaws.{decided, failed, and-left, pick-true, pick-false, eq-or-ne}
 use Rattle.order.proofs.VectorLaws.{merged-entry, merged-own}
 use Rattle.book.specs.Layout.{clockAt, stableAt, linkOf, storedAt, stable, stored, taken, slot, recordOf}
 use Rattle.shelf.specs.Show as show

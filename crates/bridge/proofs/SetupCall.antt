@@ -8,8 +8,8 @@ use mathlib.Core.List.{List}
 use lib.Dec.{eqb, ltb}
 use lib.ListN.{length, getD}
 use borrow.Author.Tests.{eq-eqb, ne-eqb}
-use Rattle.order.specs.Loops.{every, pick}
-use Rattle.order.proofs.BoolLaws.{pick-true, pick-false}
+use Rattle.loops.specs.Loops.{every, pick}
+use Rattle.loops.proofs.BoolLaws.{pick-true, pick-false}
 use Rattle.book.specs.declared.parts.Counts.{Counts}
 use Rattle.book.specs.Layout.{bookWords}
 use Rattle.fit.specs.Fit.{mostBearings, between, countsFit}

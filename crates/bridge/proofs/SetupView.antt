@@ -10,9 +10,9 @@ use mathlib.Core.List.{List, [], _∷_}
 use lib.Dec.{eqb, ltb}
 use lib.ListN.{length, getD, replicate, length-replicate, getD-replicate, List·getD-eq-default}
 use borrow.Author.Tests.{eqb-true, not-false, eq-eqb, lt-ltb, le-ltb}
-use Rattle.order.specs.Loops.{every, pick}
+use Rattle.loops.specs.Loops.{every, pick}
 use Rattle.order.specs.Record.{vectorOf}
-use Rattle.order.proofs.BoolLaws.{and-intro, and-left, and-right, pick-true, pick-false, le-or-lt}
+use Rattle.loops.proofs.BoolLaws.{and-intro, and-left, and-right, pick-true, pick-false, le-or-lt}
 use Rattle.order.proofs.VectorLaws.{zeros-intro}
 use Rattle.book.specs.declared.parts.Counts as book
 use Rattle.book.specs.Words.{put}

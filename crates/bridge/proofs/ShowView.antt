@@ -8,10 +8,10 @@ use mathlib.Core.Bool.{Bool, true, false, _&&_}
 use mathlib.Core.List.{List, [], _∷_, map}
 use lib.Dec.{eqb, ltb}
 use borrow.Author.Tests.{lt-ltb, eq-eqb, eqb-true}
-use Rattle.order.specs.Loops.{pick}
+use Rattle.loops.specs.Loops.{pick}
 use Rattle.order.specs.Order.{above}
 use Rattle.order.specs.Record.{bearingOf, rankOf}
-use Rattle.order.proofs.BoolLaws.{decided, and-intro, and-right, pick-true, pick-false}
+use Rattle.loops.proofs.BoolLaws.{decided, and-intro, and-right, pick-true, pick-false}
 use Rattle.book.specs.Layout.{recordOf}
 use Rattle.shelf.proofs.SweepLaws.{staying, recordKept, recordsShown}
 use Rattle.shelf.proofs.AllLaws.{AllOf}

@@ -10,13 +10,13 @@ use mathlib.Core.List.{List, [], _∷_, _++_, map, append-nil}
 use lib.Dec.{eqb}
 use lib.ListN.{length, getD}
 use borrow.Author.Tests.{eq-eqb, ne-eqb, eqb-true, eqb-false}
-use Rattle.order.specs.Loops.{pick}
-use Rattle.order.proofs.BoolLaws.{decided, pick-true, pick-false, eq-or-ne}
+use Rattle.loops.specs.Loops.{pick}
+use Rattle.loops.proofs.BoolLaws.{decided, pick-true, pick-false, eq-or-ne}
 use Rattle.book.specs.Layout.{seenAt, clockAt, stableAt, linkOf, heldAt, slotAt, seen, held, taken, slot, copyKind, beatKind, kindOf, beatOf, recordOf}
-use Rattle.shelf.specs.Send.{stampFrom, took}
-use Rattle.shelf.proofs.SendFrame.{length-took, took-off}
+use Rattle.links.specs.Send.{stampFrom, took}
+use Rattle.links.proofs.SendFrame.{length-took, took-off}
 use Rattle.shelf.proofs.ShowLaws.{takenSlots}
-use Rattle.shelf.proofs.TookLaws.{took-copies, took-waiting, took-seen}
+use Rattle.links.proofs.TookLaws.{took-copies, took-waiting, took-seen}
 use Rattle.model.specs.Parts.{Counts, Write, Message, copy, heartbeat, put, other, setShelf, stampOf}
 use Rattle.model.specs.Rules.{heldOf, taking}
 use Rattle.model.proofs.Places.{Other, other-true, other-intro}

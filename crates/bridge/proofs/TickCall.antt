@@ -6,10 +6,10 @@ use native.Mathlib.Omega.{arith}
 use mathlib.Core.Path.{_≡_, refl, sym, _∙_, ap}
 use mathlib.Core.Bool.{true}
 use mathlib.Core.List.{List}
-use Rattle.order.specs.Loops.{pick}
+use Rattle.loops.specs.Loops.{pick}
 use Rattle.book.specs.Layout.{clock}
 use Rattle.fit.specs.Fit.{fit}
-use Rattle.shelf.specs.Send.{beat}
+use Rattle.links.specs.Send.{beat}
 use Rattle.register.specs.Table.{tickNumber}
 use Rattle.register.specs.Calls.{tickBook}
 use Rattle.register.specs.Promises.{Tick}

@@ -7,7 +7,7 @@ use mathlib.Core.Bool.{false, _&&_}
 use mathlib.Core.List.{List, [], _∷_, _++_}
 use lib.Dec.{eqb, ltb}
 use lib.ListN.{getD}
-use Rattle.order.specs.Loops.{pick}
+use Rattle.loops.specs.Loops.{pick}
 use Rattle.order.specs.Vector.{Vec, zeros}
 use Rattle.order.specs.Order.{above}
 use Rattle.order.specs.Record.{bearingOf, valueOf, originOf, vectorOf, rankOf}

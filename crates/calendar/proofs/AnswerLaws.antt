@@ -6,9 +6,9 @@ use mathlib.Core.Path.{_≡_, ap}
 use mathlib.Core.Bool.{true, false, and-false}
 use lib.Dec.{leb}
 use borrow.Author.Tests.{le-leb, lt-leb, eq-eqb, ne-eqb}
-use Rattle.order.specs.Loops.{pick}
-use Rattle.order.proofs.BoolLaws.{and-stop, and-intro, pick-true, pick-false}
-use Rattle.calendar.specs.Months.{start}
+use Rattle.loops.specs.Loops.{pick}
+use Rattle.loops.proofs.BoolLaws.{and-stop, and-intro, pick-true, pick-false}
+use Rattle.months.specs.Months.{start}
 use Rattle.calendar.specs.Dates.{isDate, dayNumber, dateOf, numberAnswer, dateAnswer}
 use Rattle.calendar.specs.Next.{isStep, nextMonth, nextDate, numbered, nextAnswer}
 use Rattle.calendar.specs.declared.answers.DateRefusal.the-variants.{BadDate, BadStep, BadCount, TooLate}

@@ -4,7 +4,7 @@ use Prim.Native.Nat.{ℕ, _+_, _-_, _≤_}
 use native.Mathlib.Omega.{arith}
 use mathlib.Core.Path.{_≡_, sym, _∙_, ap}
 use mathlib.Core.Bool.{true}
-use Rattle.calendar.specs.Months.{start}
+use Rattle.months.specs.Months.{start}
 use Rattle.calendar.specs.Dates.{isDate, monthIndex, dateIn, dayNumber, monthOn, dateOf}
 use Rattle.calendar.specs.declared.answers.Date.{Date}
 use Rattle.calendar.proofs.DateLaws.{Real, date-real, date-in-real, index-year, index-month, index-days, index-small, number-in, end-small, Inside, month-on-is, month-on-inside}

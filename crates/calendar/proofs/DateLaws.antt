@@ -9,11 +9,11 @@ use mathlib.Core.Logic.{⊎-elim}
 use mathlib.Core.Bool.{true, false, _&&_}
 use lib.Dec.{leb}
 use borrow.Author.Tests.{le-leb, lt-leb, leb-true, leb-false}
-use Rattle.order.proofs.BoolLaws.{and-left, and-right, and-stop, decided, eq-or-ne, pick-true, pick-false}
-use Rattle.calendar.specs.Months.{daysIn, daysOf, yearOf, monthOf, start}
+use Rattle.loops.proofs.BoolLaws.{and-left, and-right, and-stop, decided, eq-or-ne, pick-true, pick-false}
+use Rattle.months.specs.Months.{daysIn, daysOf, yearOf, monthOf, start}
 use Rattle.calendar.specs.Dates.{isDate, monthIndex, dayNumber, monthBy, monthOn}
-use Rattle.calendar.proofs.MonthLaws.{days-month, month-least, month-most}
-use Rattle.calendar.proofs.StartLaws.{start-none, start-suc, start-after, year-2400-start}
+use Rattle.months.proofs.MonthLaws.{days-month, month-least, month-most}
+use Rattle.months.proofs.StartLaws.{start-none, start-suc, start-after, year-2400-start}
 
 -- what is known of a date that exists
 pub record Real (y m d : ℕ) : Type 0 where

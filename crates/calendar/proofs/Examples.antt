@@ -3,8 +3,8 @@
 use Prim.Native.Nat.{ℕ}
 use mathlib.Core.Path.{_≡_, refl, sym, _∙_, ap}
 use mathlib.Core.Bool.{true, false}
-use Rattle.order.specs.Loops.{pick}
-use Rattle.calendar.specs.Months.{monthLengths, leap, isMonth, daysIn, daysOf, start}
+use Rattle.loops.specs.Loops.{pick}
+use Rattle.months.specs.Months.{monthLengths, leap, isMonth, daysIn, daysOf, start}
 use Rattle.calendar.specs.Dates.{isDate, dayNumber, dateOf}
 use Rattle.calendar.specs.Next.{isStep, nextDate, numbered, nextAnswer}
 use Rattle.calendar.specs.declared.answers.Date.{Date}

@@ -7,16 +7,16 @@ use mathlib.Core.Path.{_≡_, sym, _∙_, subst}
 use mathlib.Core.Logic.{⊎-elim}
 use mathlib.Core.Bool.{true, false}
 use borrow.Author.Tests.{leb-true}
-use Rattle.order.proofs.BoolLaws.{and-left, decided, eq-or-ne, le-or-lt}
-use Rattle.calendar.specs.Months.{daysOf, start}
+use Rattle.loops.proofs.BoolLaws.{and-left, decided, eq-or-ne, le-or-lt}
+use Rattle.months.specs.Months.{daysOf, start}
 use Rattle.calendar.specs.Dates.{isDate, monthIndex, dayNumber, numberOf}
 use Rattle.calendar.specs.Next.{isStep, nextMonth, dayWithin, nextDate, numbered, nextAnswer}
 use Rattle.calendar.specs.Promises.{Accepted, Reason, bad-date, bad-step, bad-count, too-late, good}
 use Rattle.calendar.specs.declared.answers.Date.{Date}
 use Rattle.calendar.specs.declared.answers.DateAnswer.{DateAnswer}
 use Rattle.calendar.specs.declared.answers.DateAnswer.the-variants.{On}
-use Rattle.calendar.proofs.MonthLaws.{days-of-bounds}
-use Rattle.calendar.proofs.StartLaws.{start-after}
+use Rattle.months.proofs.MonthLaws.{days-of-bounds}
+use Rattle.months.proofs.StartLaws.{start-after}
 use Rattle.calendar.proofs.DateLaws.{date-real, date-in-real, index-days, number-in}
 use Rattle.calendar.proofs.AnswerLaws.{next-bad-date, next-bad-step, next-bad-count, next-too-late, next-given}
 

@@ -7,15 +7,15 @@ use mathlib.Core.List.{_∷_}
 use mathlib.Core.Bool.{true, false}
 use mathlib.Core.Logic.{⊎-elim}
 use lib.ListN.{length, getD}
-use Rattle.order.proofs.BoolLaws.{decided}
-use Rattle.calendar.specs.Months.{daysOf}
+use Rattle.loops.proofs.BoolLaws.{decided}
+use Rattle.months.specs.Months.{daysOf}
 use Rattle.calendar.specs.Dates.{isDate, dayNumber, numberOf, dateOf, numberAnswer, dateAnswer}
 use Rattle.calendar.specs.Next.{nextDate, nextAnswer}
 use Rattle.calendar.specs.Promises.{Good}
 use Rattle.calendar.specs.declared.answers.Date.{Date}
 use Rattle.calendar.specs.declared.answers.DateAnswer.the-variants.{On}
-use Rattle.calendar.proofs.StartTable.{first, later}
-use Rattle.calendar.proofs.StartLaws.{start-suc, table-length, table-start, last-start}
+use Rattle.months.proofs.StartTable.{first, later}
+use Rattle.months.proofs.StartLaws.{start-suc, table-length, table-start, last-start}
 use Rattle.calendar.proofs.DateLaws.{date-real}
 use Rattle.calendar.proofs.AnswerLaws.{number-refused, number-given, date-given}
 use Rattle.calendar.proofs.Bijection.{number-small, date-of-number, date-of-real, number-of-date}

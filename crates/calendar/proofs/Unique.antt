@@ -1,8 +1,7 @@
--- Each promise settles its answer: two answers that satisfy a contract, for the same arguments, are the same. The contract is the
--- function's own, as a caller reads it (`Learnt`), and no copy.
+-- Each promise of a date settles its answer.
 -- Assumes nothing.
 use mathlib.Core.Path.{_∙_, sym}
-use Rattle.order.proofs.Unique.{Settled}
+use Rattle.loops.specs.Settled.{Settled}
 use Rattle.calendar.proofs.dates.is_date.Kinds as is-date-kinds
 use Rattle.calendar.proofs.dates.is_date.Reads as is-date
 use Rattle.calendar.proofs.dates.day_number.Kinds as day-number-kinds

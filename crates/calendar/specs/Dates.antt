@@ -3,8 +3,8 @@
 use Prim.Native.Nat.{ℕ, zero, suc, _+_, _-_, _*_}
 use mathlib.Core.Bool.{Bool, _&&_}
 use lib.Dec.{leb}
-use Rattle.order.specs.Loops.{pick}
-use Rattle.calendar.specs.Months.{firstYear, lastYear, daysIn, yearOf, monthOf, start}
+use Rattle.loops.specs.Loops.{pick}
+use Rattle.months.specs.Months.{firstYear, lastYear, daysIn, yearOf, monthOf, start}
 use Rattle.calendar.specs.declared.answers.Date.{Date}
 use Rattle.calendar.specs.declared.answers.DateRefusal.{DateRefusal}
 use Rattle.calendar.specs.declared.answers.DateRefusal.the-variants.{BadDate, BadStep, BadCount, TooLate}

@@ -1,4 +1,3 @@
-pub mod Months
 pub mod Dates
 pub mod Next
 pub mod Promises

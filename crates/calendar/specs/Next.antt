@@ -3,8 +3,8 @@
 use Prim.Native.Nat.{ℕ, _+_, _*_, min}
 use mathlib.Core.Bool.{Bool, _&&_, not}
 use lib.Dec.{leb, eqb}
-use Rattle.order.specs.Loops.{pick}
-use Rattle.calendar.specs.Months.{months, daysOf}
+use Rattle.loops.specs.Loops.{pick}
+use Rattle.months.specs.Months.{months, daysOf}
 use Rattle.calendar.specs.Dates.{isDate, monthIndex, dateIn, numberOf}
 use Rattle.calendar.specs.declared.answers.Date.{Date}
 use Rattle.calendar.specs.declared.answers.DateRefusal.the-variants.{BadDate, BadStep, BadCount, TooLate}

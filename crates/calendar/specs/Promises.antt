@@ -3,7 +3,7 @@
 use Prim.Native.Nat.{ℕ, _≤_, _<_}
 use mathlib.Core.Path.{_≡_}
 use mathlib.Core.Bool.{true, false}
-use Rattle.calendar.specs.Months.{months}
+use Rattle.months.specs.Months.{months}
 use Rattle.calendar.specs.Dates.{isDate, numberOf}
 use Rattle.calendar.specs.Next.{isStep, nextMonth, nextDate}
 use Rattle.calendar.specs.declared.answers.Date.{Date}

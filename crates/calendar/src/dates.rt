@@ -2,14 +2,14 @@
 use crate::answers::Date;
 use crate::answers::DateAnswer;
 use crate::answers::DateRefusal;
-use crate::months::days_in_month;
-use crate::starts::MONTHS;
-use crate::starts::month_start;
-use crate::starts::month_starts;
+use months::days_in_month;
+use months::starts::MONTHS;
+use months::starts::month_start;
+use months::starts::month_starts;
 ghost use mathlib.Core.Path.{_≡_};
 ghost use mathlib.Core.Bool.{true};
 ghost use Prim.Native.Nat.{_≤_, _<_, min};
-ghost use Rattle.calendar.specs.Months.{months, Starts};
+ghost use Rattle.months.specs.Months.{months, Starts};
 ghost use Rattle.calendar.specs.Dates.{lastDay, isDate, monthIndex, dateIn, monthOn, numberAnswer, dateAnswer};
 ghost use Rattle.calendar.specs.Next.{dayWithin, numbered, nextAnswer};
 

@@ -1,7 +1,6 @@
 // A script: lines of the desk, each with the answer that it must get on the line after it.
 use check::same;
 use events::reply::answer_line;
-ghost use mathlib.Core.Path.{_≡_};
 ghost use Prim.Native.Nat.{_<_, _≤_};
 ghost use lib.ListN.{length};
 ghost use Rattle.events.specs.Answering.{answerRoom};

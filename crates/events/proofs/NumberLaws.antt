@@ -7,7 +7,7 @@ use mathlib.Core.Bool.{true, false}
 use mathlib.Core.List.{List}
 use lib.Dec.{eqb}
 use borrow.Author.Tests.{eqb-true}
-use Rattle.order.proofs.BoolLaws.{decided, pick-true, pick-false}
+use Rattle.loops.proofs.BoolLaws.{decided, pick-true, pick-false}
 use Rattle.paper.specs.Calls.{tick, take, refresh, numberIn, answerBy}
 use Rattle.book.specs.declared.parts.Counts.{Counts}
 use Rattle.register.specs.declared.answer.Answer.{Answer}

@@ -9,9 +9,9 @@ use mathlib.Core.Bool.{Bool, true, false}
 use lib.Dec.{eqb}
 use lib.ListN.{length, getD, take, drop, replicate, length-append, length-take, length-drop}
 use lib.Seq.{take-length, length-sets}
-use Rattle.order.specs.Loops.{pick}
+use Rattle.loops.specs.Loops.{pick}
 use borrow.Author.Tests.{eqb-true}
-use Rattle.order.proofs.BoolLaws.{decided, pick-false}
+use Rattle.loops.proofs.BoolLaws.{decided, pick-false}
 use Rattle.register.specs.declared.answer.Answer.{Answer}
 use Rattle.register.specs.declared.answer.Finding.{Finding}
 use Rattle.register.specs.declared.answer.ReadAnswer.{ReadAnswer}

@@ -1,6 +1,6 @@
 -- The laws of the input byte by byte: what one byte does, that pieces may be cut anywhere, and what a loop over a piece knows after i bytes.
 -- Assumes nothing.
-use Prim.Native.Nat.{ℕ, suc, _+_, _*_, _≤_, _<_}
+use Prim.Native.Nat.{ℕ, _+_, _*_, _≤_, _<_}
 use native.Mathlib.Numerals.{add-one}
 use native.Mathlib.Omega.{arith}
 use mathlib.Core.Path.{_≡_, refl, sym, _∙_, ap, ap₂, subst}
@@ -9,7 +9,7 @@ use mathlib.Core.List.{List, [], _∷_, _++_, append-nil, append-assoc}
 use lib.ListN.{length, getD, take, set, length-append, length-take, length-set}
 use lib.Seq.{take-suc, take-set-le, getD-set-same, length-take-le, take-all}
 use borrow.Author.Tests.{eq-eqb, ne-eqb, lt-ltb, le-ltb}
-use Rattle.order.proofs.BoolLaws.{eq-or-ne, pick-true, pick-false}
+use Rattle.loops.proofs.BoolLaws.{eq-or-ne, pick-true, pick-false}
 use Rattle.line.specs.Printing.{Wrote}
 use Rattle.line.proofs.PrintLaws.{wrote-nothing, wrote-same, wrote-then, wrote-length}
 use Rattle.events.specs.Answering.{lineFeed, answerTo, bookAfter}

@@ -6,10 +6,10 @@ use mathlib.Core.List.{List}
 use mathlib.Core.Bool.{Bool}
 use lib.Dec.{eqb, ltb}
 use borrow.Author.Tests.{eq-eqb, ne-eqb, lt-ltb, le-ltb}
-use Rattle.order.specs.Loops.{pick}
+use Rattle.loops.specs.Loops.{pick}
 use Rattle.order.specs.Order.{above}
 use Rattle.order.specs.Record.{mostDepots, rankIn}
-use Rattle.order.proofs.BoolLaws.{pick-true, pick-false, or-left, or-right, or-next}
+use Rattle.loops.proofs.BoolLaws.{pick-true, pick-false, or-left, or-right, or-next}
 use Rattle.export.specs.Numbers.{greaterNumber}
 
 module _ (n : ℕ) (a b : List ℕ) where

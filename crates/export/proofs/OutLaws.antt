@@ -7,8 +7,8 @@ use mathlib.Core.List.{List, [], _∷_}
 use mathlib.Core.Bool.{Bool, true, false}
 use lib.Dec.{eqb}
 use lib.ListN.{take}
-use Rattle.order.specs.Loops.{pick}
-use Rattle.order.proofs.BoolLaws.{pick-true, pick-false}
+use Rattle.loops.specs.Loops.{pick}
+use Rattle.loops.proofs.BoolLaws.{pick-true, pick-false}
 use Rattle.register.specs.declared.answer.Finding.{Finding}
 use Rattle.register.specs.declared.answer.ReadAnswer.{ReadAnswer}
 use Rattle.register.specs.declared.answer.WriteAnswer.{WriteAnswer}

@@ -6,13 +6,12 @@ use mathlib.Core.Bool.{_||_}
 use lib.Dec.{eqb, leb, ltb}
 use lib.ListN.{length, getD}
 use lib.Seq.{sets}
-use Rattle.order.specs.Loops.{pick}
+use Rattle.loops.specs.Loops.{pick}
 use Rattle.order.specs.Vector.{zeros}
 use Rattle.order.specs.Order.{above}
 use Rattle.order.specs.Record.{mostDepots, rankIn, valueOf, vectorOf}
 use Rattle.register.specs.declared.answer.Finding.{Finding}
 use Rattle.register.specs.declared.answer.Finding.the-variants.{Value, Unwritten}
-use Rattle.register.specs.declared.answer.ReadAnswer.{ReadAnswer}
 use Rattle.register.specs.declared.answer.WriteAnswer.{WriteAnswer}
 use Rattle.register.specs.declared.answer.WriteAnswer.the-variants.{Current, Superseded}
 use Rattle.register.specs.Answers.{cut}

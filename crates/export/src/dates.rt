@@ -7,7 +7,7 @@ use calendar::dates::day_number;
 use calendar::dates::is_date;
 use calendar::dates::next_date;
 ghost use mathlib.Core.Path.{_≡_};
-ghost use Rattle.order.specs.Loops.{pick};
+ghost use Rattle.loops.specs.Loops.{pick};
 ghost use Rattle.calendar.specs.Dates.{isDate, numberAnswer, dateAnswer};
 ghost use Rattle.calendar.specs.Next.{nextAnswer};
 ghost use Rattle.export.specs.Dates.{dateNumber, numberOut, dateOut, nextOut};

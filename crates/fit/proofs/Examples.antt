@@ -8,9 +8,9 @@ use mathlib.Core.Bool.{true, false}
 use lib.Dec.{lit≤}
 use lib.ListN.{length, replicate, getD}
 use borrow.Author.Tests.{ne-eqb}
-use Rattle.order.specs.Loops.{every}
+use Rattle.loops.specs.Loops.{every}
 use Rattle.order.specs.Vector.{covered, zeros}
-use Rattle.order.proofs.BoolLaws.{and-stop}
+use Rattle.loops.proofs.BoolLaws.{and-stop}
 use Rattle.book.specs.Words.{part}
 use Rattle.book.specs.Layout.{bookWords}
 use Rattle.book.proofs.WordsLaws.{part-at}

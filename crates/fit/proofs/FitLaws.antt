@@ -1,15 +1,14 @@
 -- What a fit book gives, part by part, and that a book of all zeros is not fit.
 -- Assumes nothing.
-use Prim.Native.Nat.{ℕ, _≤_, _<_}
+use Prim.Native.Nat.{ℕ, _≤_}
 use native.Mathlib.Nat.{le-trans}
-use native.Mathlib.Omega.{arith}
-use mathlib.Core.Path.{_≡_, refl, sym, _∙_}
+use mathlib.Core.Path.{_≡_, refl}
 use mathlib.Core.List.{List}
-use mathlib.Core.Bool.{Bool, true, false, _&&_, and-false}
+use mathlib.Core.Bool.{true, false}
 use lib.Dec.{leb, lit≤}
-use lib.ListN.{length, replicate, getD, getD-replicate}
+use lib.ListN.{length, replicate}
 use borrow.Author.Tests.{leb-true, eqb-true}
-use Rattle.order.proofs.BoolLaws.{and-left, and-right, and-stop}
+use Rattle.loops.proofs.BoolLaws.{and-left, and-right}
 use Rattle.book.specs.declared.parts.Counts.{Counts}
 use Rattle.book.specs.Layout.{bookWords, countsOf}
 use Rattle.fit.specs.Fit.{mostBearings, between, countsFit, Within, partsFit, fit}

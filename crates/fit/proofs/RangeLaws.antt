@@ -4,14 +4,13 @@ use Prim.Native.Nat.{ℕ, _+_, _-_, _≤_, _<_}
 use native.Mathlib.Nat.{lt-of-lt-of-le, lt-irrefl}
 use mathlib.Core.Path.{_≡_, refl, _∙_, ap, ap₂, subst}
 use mathlib.Core.List.{List, [], _∷_}
-use mathlib.Core.Bool.{true}
-use lib.Dec.{eqb, leb}
+use lib.Dec.{eqb}
 use lib.ListN.{getD, take, drop}
 use borrow.Author.Tests.{eqb-true, le-leb, leb-true}
-use Rattle.order.specs.Loops.{every}
+use Rattle.loops.specs.Loops.{every}
 use Rattle.order.specs.Vector.{Vec, vectorIn, vectorAt, covered}
-use Rattle.order.proofs.BoolLaws.{together}
-use Rattle.order.proofs.LoopLaws.{every-at, every-intro}
+use Rattle.loops.proofs.BoolLaws.{together}
+use Rattle.loops.proofs.LoopLaws.{every-at, every-intro}
 use Rattle.order.proofs.VectorLaws.{covered-at, covered-intro, covered-same}
 use Rattle.book.specs.Words.{part}
 use Rattle.book.proofs.WordsLaws.{part-at, part-lent}

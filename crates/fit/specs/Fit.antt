@@ -6,7 +6,7 @@ use mathlib.Core.Bool.{Bool, _&&_, _||_}
 use mathlib.Core.List.{List}
 use lib.Dec.{leb, ltb, eqb}
 use lib.ListN.{length}
-use Rattle.order.specs.Loops.{every}
+use Rattle.loops.specs.Loops.{every}
 use Rattle.order.specs.Vector.{Vec, covered, zeros}
 use Rattle.order.specs.Record.{mostDepots, bearingOf, originOf, vectorOf}
 use Rattle.book.specs.declared.parts.Counts.{Counts}
@@ -87,14 +87,13 @@ messageFit n s from m = beatFit m || copyFit n s from m
 unfoldable pub headFit : List ℕ → ℕ → Bool
 headFit l q = leb (held l q) linkRoom && leb (taken l q) (held l q)
 
--- the messages of link q of shelf s out of a depot: the taken ones stand first and are copies
-unfoldable pub messagesFit : Counts → List ℕ → ℕ → ℕ → ℕ → Bool
-messagesFit n l s from q =
-    every (taken l q) (λ i. copyFit n s from (slot l q i)) && every (held l q - taken l q) (λ i. messageFit n s from (slot l q (taken l q + i)))
+-- h messages of link q of shelf s out of a depot, of which t are taken: these stand first and are copies
+unfoldable pub messagesFit : Counts → List ℕ → ℕ → ℕ → ℕ → ℕ → ℕ → Bool
+messagesFit n l s from q t h = every t (λ i. copyFit n s from (slot l q i)) && every (h - t) (λ i. messageFit n s from (slot l q (t + i)))
 
 -- link q of shelf s out of a depot
 unfoldable pub linkFit : Counts → List ℕ → ℕ → ℕ → ℕ → Bool
-linkFit n l s from q = headFit l q && messagesFit n l s from q
+linkFit n l s from q = headFit l q && messagesFit n l s from q (taken l q) (held l q)
 
 -- a record stored for bearing k: unwritten, or a version of that very bearing
 unfoldable pub keptFit : Counts → ℕ → List ℕ → Bool

@@ -1,3 +1,1 @@
 pub mod Fit
-pub mod Look
-pub mod Named

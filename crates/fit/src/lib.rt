@@ -1,6 +1,5 @@
-// Whether a book is fit: every part of it, as document 01 lists them.
-pub mod link;
-pub mod named;
+// When a part of a book is fit: the counts, the homes, the crews, the shelves; the definitions of every part.
+pub mod counts;
+pub mod crews;
+pub mod range;
 pub mod shelf;
-pub mod version;
-pub mod whole;

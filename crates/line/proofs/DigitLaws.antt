@@ -12,7 +12,7 @@ use lib.Dec.{leb}
 use lib.ListN.{length, getD, drop, length-drop, drop-of-length-le}
 use lib.Seq.{drop-cons}
 use borrow.Author.Tests.{le-leb, lt-leb}
-use Rattle.order.proofs.BoolLaws.{decided, and-intro, pick-true, pick-false}
+use Rattle.loops.proofs.BoolLaws.{decided, and-intro, pick-true, pick-false}
 use Rattle.line.specs.Number.{isDigit, run, valueFrom}
 
 pub digit-yes : (b : ℕ) → 48 ≤ b → b < 58 → isDigit b ≡ true

@@ -11,7 +11,7 @@ use lib.Dec.{leb, eqb}
 use lib.ListN.{length, drop, take-append-drop}
 use lib.Seq.{drop-append-seam}
 use borrow.Author.Tests.{le-leb, leb-true, eqb-true}
-use Rattle.order.proofs.BoolLaws.{decided, and-left, and-right, and-intro, eq-or-ne}
+use Rattle.loops.proofs.BoolLaws.{decided, and-left, and-right, and-intro, eq-or-ne}
 use Rattle.line.specs.Number.{decimal, run, valueFrom, isNumber}
 use Rattle.line.specs.Grammar.{letter, spaced, inRange}
 use Rattle.line.specs.Reading.{eventOf, before, numbersIn}

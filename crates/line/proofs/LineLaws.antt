@@ -7,8 +7,8 @@ use mathlib.Core.Option.{Option, none, some}
 use lib.ListN.{length, getD, take, drop, length-take}
 use native.Mathlib.Omega.{arith}
 use borrow.Author.Tests.{le-leb, lt-leb, ne-eqb}
-use Rattle.order.specs.Loops.{pick}
-use Rattle.order.proofs.BoolLaws.{pick-true, pick-false}
+use Rattle.loops.specs.Loops.{pick}
+use Rattle.loops.proofs.BoolLaws.{pick-true, pick-false}
 use Rattle.line.specs.Grammar.{letter, least, most}
 use Rattle.line.specs.Reading.{bad, eventOf, numbersIn, counted, named, headed, reading}
 use Rattle.line.specs.declared.reader.Event.{Event}

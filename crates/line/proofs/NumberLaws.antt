@@ -11,7 +11,7 @@ use lib.Dec.{leb, ltb}
 use lib.ListN.{getD, drop}
 use lib.Seq.{getD-drop}
 use borrow.Author.Tests.{le-leb, lt-ltb, le-ltb, eq-eqb, ne-eqb, leb-true}
-use Rattle.order.proofs.BoolLaws.{failed, passed, both-ways, and-intro, and-left, and-right, not-passed, not-failed, pick-true, pick-false}
+use Rattle.loops.proofs.BoolLaws.{failed, passed, both-ways, and-intro, and-left, and-right, not-passed, not-failed, pick-true, pick-false}
 use Rattle.line.specs.Number.{run, valueFrom, spareZero, isNumber, numberAt, mostDigits, mostNumber}
 use Rattle.line.specs.declared.digits.Number.the-variants.{Bad, Good}
 

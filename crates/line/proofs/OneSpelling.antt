@@ -11,7 +11,7 @@ use mathlib.Core.Bool.{true, false}
 use lib.Dec.{leb}
 use lib.ListN.{take}
 use borrow.Author.Tests.{leb-true}
-use Rattle.order.proofs.BoolLaws.{decided, both-ways, and-left, and-right, le-or-lt}
+use Rattle.loops.proofs.BoolLaws.{decided, both-ways, and-left, and-right, le-or-lt}
 use Rattle.line.specs.Number.{decimal, isDigit, run, valueFrom}
 use Rattle.line.proofs.DigitLaws.{run-digit, run-other, value-digit, value-other}
 use Rattle.line.proofs.NumberLaws.{Numeral, spare-zero}

@@ -12,8 +12,8 @@ use lib.Dec.{leb, eqb}
 use lib.ListN.{length, getD, drop, replicate, drop-of-length-le}
 use lib.Seq.{sets, drop-drop}
 use borrow.Author.Tests.{le-leb, lt-leb, eq-eqb, ne-eqb}
-use Rattle.order.specs.Loops.{pick}
-use Rattle.order.proofs.BoolLaws.{and-intro, pick-true, pick-false}
+use Rattle.loops.specs.Loops.{pick}
+use Rattle.loops.proofs.BoolLaws.{and-intro, pick-true, pick-false}
 use Rattle.line.specs.Number.{run, valueFrom, isNumber}
 use Rattle.line.specs.Reading.{bad, good, before, numbersIn, counted, badLine, lineOf}
 use Rattle.line.specs.declared.reader.Event.{Event}

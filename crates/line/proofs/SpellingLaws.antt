@@ -10,7 +10,7 @@ use mathlib.Core.List.{List, [], _∷_, _++_, append-assoc}
 use mathlib.Core.Bool.{true, false}
 use lib.ListN.{length, getD, length-append}
 use borrow.Author.Tests.{lt-ltb, le-ltb}
-use Rattle.order.proofs.BoolLaws.{le-or-lt, decided, pick-true, pick-false}
+use Rattle.loops.proofs.BoolLaws.{le-or-lt, decided, pick-true, pick-false}
 use Rattle.line.specs.Number.{spelled, decimal, isDigit, run, valueFrom, isNumber}
 use Rattle.line.proofs.DigitLaws.{digit-yes, run-digit, value-digit, value-other}
 use Rattle.line.proofs.NumberLaws.{number-whole, spare-none, spare-other}

@@ -12,7 +12,7 @@ use lib.Dec.{leb}
 use lib.ListN.{length, getD, take, drop, replicate, length-drop}
 use lib.Seq.{sets, sets-eq, take-length, take-append-seam, take-at, drop-append-le, getD-take}
 use borrow.Author.Tests.{le-leb, leb-true}
-use Rattle.order.proofs.BoolLaws.{decided, le-or-lt, pick-true, pick-false}
+use Rattle.loops.proofs.BoolLaws.{decided, le-or-lt, pick-true, pick-false}
 use Rattle.line.specs.Number.{decimal, run, valueFrom, isNumber, mostNumber, Spells}
 use Rattle.line.specs.Grammar.{letter, least, most, mostBytes, printed, inRange, Says}
 use Rattle.line.specs.Reading.{Reading, bad, good, eventOf, numbersIn, counted, named, headed, reading, mostNumbers, lineOf}

@@ -7,7 +7,7 @@ use mathlib.Core.Bool.{_&&_}
 use lib.Dec.{leb, eqb}
 use lib.ListN.{length, drop, replicate}
 use lib.Seq.{sets}
-use Rattle.order.specs.Loops.{pick}
+use Rattle.loops.specs.Loops.{pick}
 use Rattle.line.specs.Number.{run, valueFrom, isNumber}
 use Rattle.line.specs.Grammar.{letter, least, most, mostBytes, spaceByte}
 use Rattle.line.specs.declared.reader.Event.{Event}

@@ -1,14 +1,14 @@
 -- A call's number is that of its answer; a write that is done answers its stamp, current where its version is stored, superseded where a greater one is.
 -- Assumes nothing.
-use Prim.Native.Nat.{ℕ, suc, _≤_}
+use Prim.Native.Nat.{ℕ, _≤_}
 use native.Mathlib.Omega.{arith}
 use mathlib.Core.Path.{_≡_, refl, sym, subst, subst₂, ap, _∙_}
 use mathlib.Core.Logic.{_⊎_, inl, inr, ⊎-elim}
 use mathlib.Core.Bool.{true, false}
 use mathlib.Core.List.{List, _∷_}
-use Rattle.order.specs.Loops.{pick}
+use Rattle.loops.specs.Loops.{pick}
 use Rattle.order.specs.Order.{above}
-use Rattle.order.proofs.BoolLaws.{decided, eq-or-ne, pick-true, pick-false}
+use Rattle.loops.proofs.BoolLaws.{decided, eq-or-ne, pick-true, pick-false}
 use Rattle.model.specs.Parts.{Counts, Version, Write, copy, Shelf, State, rank, stamp, unwritten, greater, setCrew}
 use Rattle.model.specs.Rules.{keeping, storing, keep, send, settle}
 use Rattle.paper.specs.Calls.{Call, read, write, tick, take, refresh, Answer, numberIn, current, superseded}

@@ -12,7 +12,7 @@ use Rattle.order.specs.Vector.{Vec, merged, zeros}
 use Rattle.order.specs.Order.{above}
 use Rattle.order.proofs.OrderLaws.{above-entrywise}
 use Rattle.order.proofs.VectorLaws.{covered-intro}
-use Rattle.order.proofs.BoolLaws.{both-ways}
+use Rattle.loops.proofs.BoolLaws.{both-ways}
 use Rattle.model.specs.Parts.{Counts, Version, Write, State, rank, stamp, setShelf, setCrew, stampOf}
 use Rattle.model.specs.Rules.{settled, clear, keep, emit, send}
 use Rattle.paper.specs.Calls.{Call, read, write}

@@ -5,7 +5,7 @@ use mathlib.Core.Path.{_≡_, refl, ap, _∙_, sym}
 use mathlib.Core.Bool.{Bool}
 use mathlib.Core.List.{List, [], _∷_}
 use lib.Dec.{eqb}
-use Rattle.order.specs.Loops.{times, every, pick}
+use Rattle.loops.specs.Loops.{times, every, pick}
 use Rattle.order.specs.Vector.{Vec, merged, covered, zeros, agree}
 use Rattle.order.specs.Order.{Rank, above}
 use Rattle.model.specs.Parts.{Counts, Version, Write, copy, Shelf, State, put, rank, greater, setShelf, setCrew, lowest, other, stampOf, unwritten, emptyShelf, fresh, end, room}

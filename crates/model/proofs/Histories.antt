@@ -6,7 +6,7 @@ use mathlib.Core.Path.{_≡_, refl, sym, subst, ap}
 use mathlib.Core.Logic.{_⊎_, inl, inr, ⊎-elim}
 use mathlib.Core.List.{List, [], _∷_, _++_, List·Memᴰ·not-nil}
 use borrow.Author.Tests.{eq-eqb, ne-eqb}
-use Rattle.order.proofs.BoolLaws.{eq-or-ne, pick-true, pick-false}
+use Rattle.loops.proofs.BoolLaws.{eq-or-ne, pick-true, pick-false}
 use Rattle.model.specs.Parts.{Counts, Write, State, fresh, emptyShelf, unwritten}
 use Rattle.paper.specs.Calls.{Call, read, write, tick, take, refresh, refused}
 use Rattle.model.specs.Calls.{Outcome, made, refusal, acted, step}

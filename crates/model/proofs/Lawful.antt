@@ -7,11 +7,11 @@ use mathlib.Core.Logic.{⊎-elim}
 use mathlib.Core.Bool.{Bool, true, false, not, _&&_}
 use lib.Dec.{eqb, leb}
 use borrow.Author.Tests.{eqb-true, leb-true, leb-false}
-use Rattle.order.specs.Loops.{every, pick}
+use Rattle.loops.specs.Loops.{every, pick}
 use Rattle.order.specs.Vector.{zeros, agree}
 use Rattle.order.specs.Order.{Rank, above}
-use Rattle.order.proofs.BoolLaws.{decided, both-ways, failed, and-left, and-right, not-passed, pick-true, pick-false}
-use Rattle.order.proofs.LoopLaws.{every-at, every-fails}
+use Rattle.loops.proofs.BoolLaws.{decided, both-ways, failed, and-left, and-right, not-passed, pick-true, pick-false}
+use Rattle.loops.proofs.LoopLaws.{every-at, every-fails}
 use Rattle.order.proofs.VectorLaws.{agree-at}
 use Rattle.order.proofs.OrderLaws.{above-irrefl, above-trans, above-unwritten, above-written, above-entrywise, above-cong}
 

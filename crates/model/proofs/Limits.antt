@@ -9,7 +9,7 @@ use mathlib.Core.Bool.{Bool}
 use mathlib.Core.List.{List, [], _∷_, _++_}
 use lib.ListN.{length, length-append}
 use Rattle.order.specs.Vector.{Vec}
-use Rattle.order.proofs.BoolLaws.{eq-or-ne}
+use Rattle.loops.proofs.BoolLaws.{eq-or-ne}
 use Rattle.model.specs.Parts.{Counts, Write, Message, copy, heartbeat, Shelf, State, fresh, emptyShelf, setShelf, setCrew, room}
 use Rattle.model.specs.Rules.{left, shown, settled, settle, storing, keep, ticked, receiving, send, heldOf, taking, holds}
 use Rattle.paper.specs.Calls.{Call, read, write, tick, take, refresh}

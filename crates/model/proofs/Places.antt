@@ -8,8 +8,8 @@ use mathlib.Core.Logic.{_⊎_, inl, inr, ⊎-elim}
 use mathlib.Core.Bool.{Bool, true, false, not, _&&_}
 use lib.Dec.{eqb, ltb}
 use borrow.Author.Tests.{eqb-true, eqb-false, eq-eqb, ne-eqb, ltb-true, lt-ltb}
-use Rattle.order.specs.Loops.{times, pick}
-use Rattle.order.proofs.BoolLaws.{and-left, and-right, and-intro, not-passed, not-failed, both-ways, eq-or-ne}
+use Rattle.loops.specs.Loops.{times, pick}
+use Rattle.loops.proofs.BoolLaws.{and-left, and-right, and-intro, not-passed, not-failed, both-ways, eq-or-ne}
 use Rattle.model.specs.Parts.{Counts, Message, Shelf, State, put, lowest, other, setShelf, end}
 use Rattle.model.specs.Rules.{emit, receiving}
 

@@ -7,9 +7,9 @@ use mathlib.Core.Logic.{⊎-elim}
 use mathlib.Core.Bool.{true, false}
 use mathlib.Core.List.{List, [], _∷_, _++_, List·Memᴰ, List·Memᴰ·head, List·Memᴰ·tail, List·Memᴰ·cases-cons, List·Memᴰ·not-nil}
 use Rattle.order.proofs.VectorLaws.{covered-intro}
-use Rattle.order.proofs.BoolLaws.{eq-or-ne, le-or-lt, both-ways}
+use Rattle.loops.proofs.BoolLaws.{eq-or-ne, le-or-lt, both-ways}
 use borrow.Author.Tests.{lt-leb}
-use Rattle.order.specs.Loops.{pick}
+use Rattle.loops.specs.Loops.{pick}
 use Rattle.model.specs.Parts.{Counts, Write, Message, Shelf, State, stamp}
 use Rattle.model.specs.Rules.{settle, clear, lowestSeen}
 use Rattle.paper.specs.Calls.{Call, refresh, first}

@@ -9,9 +9,9 @@ use mathlib.Core.List.{List, [], _∷_}
 use lib.Dec.{eqb, ltb, leb}
 use lib.ListN.{getD, length}
 use borrow.Author.Tests.{eqb-false, ltb-true, ltb-false, leb-true, leb-false, le-ltb, lt-leb, ne-eqb}
-use Rattle.order.specs.Loops.{pick, every}
-use Rattle.order.proofs.BoolLaws.{and-left, and-right, both-ways}
-use Rattle.order.proofs.LoopLaws.{every-at}
+use Rattle.loops.specs.Loops.{pick, every}
+use Rattle.loops.proofs.BoolLaws.{and-left, and-right, both-ways}
+use Rattle.loops.proofs.LoopLaws.{every-at}
 use Rattle.model.specs.Parts.{Counts, Message, State, mostBearings, fresh, end}
 use Rattle.model.specs.Rules.{roomy}
 use Rattle.paper.specs.Calls.{read, write, tick, take, refresh, first}

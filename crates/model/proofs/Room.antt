@@ -8,8 +8,8 @@ use mathlib.Core.Bool.{true}
 use lib.Dec.{eqb}
 use lib.ListN.{length}
 use borrow.Author.Tests.{ltb-true, lt-ltb, eqb-true, eq-eqb}
-use Rattle.order.proofs.BoolLaws.{eq-or-ne, or-cases, or-left, or-right}
-use Rattle.order.proofs.LoopLaws.{every-at, every-intro}
+use Rattle.loops.proofs.BoolLaws.{eq-or-ne, or-cases, or-left, or-right}
+use Rattle.loops.proofs.LoopLaws.{every-at, every-intro}
 use Rattle.model.specs.Parts.{Counts, State, room}
 use Rattle.model.specs.Rules.{holds, roomy}
 use Rattle.model.proofs.Places.{Other}

@@ -8,7 +8,7 @@ use mathlib.Core.Logic.{_⊎_, inl, inr, ⊎-elim}
 use mathlib.Core.Bool.{true, false}
 use mathlib.Core.List.{List, List·Memᴰ}
 use Rattle.order.specs.Vector.{Vec}
-use Rattle.order.proofs.BoolLaws.{decided, both-ways}
+use Rattle.loops.proofs.BoolLaws.{decided, both-ways}
 use Rattle.order.proofs.VectorLaws.{covered-at}
 use Rattle.model.specs.Parts.{Counts, Version, Write, Message, copy, Shelf, State, setShelf, unwritten, other}
 use Rattle.model.specs.Rules.{raised, clear, shown, settled, settle}

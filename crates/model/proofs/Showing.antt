@@ -7,9 +7,9 @@ use mathlib.Core.Path.{_≡_, refl, sym, subst}
 use mathlib.Core.Logic.{⊎-elim}
 use mathlib.Core.Bool.{Bool, true, false}
 use mathlib.Core.List.{List, [], _∷_, List·Memᴰ, List·Memᴰ·head, List·Memᴰ·tail, List·Memᴰ·cases-cons, List·Memᴰ·not-nil}
-use Rattle.order.specs.Loops.{times, pick}
+use Rattle.loops.specs.Loops.{times, pick}
 use Rattle.order.specs.Order.{above}
-use Rattle.order.proofs.BoolLaws.{failed, both-ways}
+use Rattle.loops.proofs.BoolLaws.{failed, both-ways}
 use Rattle.order.proofs.OrderLaws.{above-irrefl, above-trans, above-split}
 use Rattle.model.specs.Parts.{Version, Write, rank, greater}
 use Rattle.model.specs.Rules.{keeping, shownOf, left}

@@ -8,7 +8,7 @@ use mathlib.Core.Logic.{_⊎_, ⊎-elim}
 use mathlib.Core.Bool.{false}
 use mathlib.Core.List.{List, [], _∷_}
 use Rattle.order.specs.Vector.{Vec, merged}
-use Rattle.order.proofs.BoolLaws.{eq-or-ne}
+use Rattle.loops.proofs.BoolLaws.{eq-or-ne}
 use Rattle.model.specs.Parts.{Counts, Version, Write, Message, copy, heartbeat, Shelf, State, stamp, stampOf, setShelf, setCrew, unwritten, end}
 use Rattle.model.specs.Rules.{settle, storing, keep, send, taking, lowestSeen}
 use Rattle.paper.specs.Calls.{read, write, tick, take, refresh}

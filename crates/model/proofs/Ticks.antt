@@ -9,8 +9,8 @@ use mathlib.Core.Bool.{true}
 use mathlib.Core.List.{List, [], _∷_, _++_, List·Memᴰ, List·Memᴰ·head, List·Memᴰ·tail, List·Memᴰ·cases-cons, List·Memᴰ·not-nil}
 use lib.ListN.{length}
 use borrow.Author.Tests.{lt-leb}
-use Rattle.order.specs.Loops.{pick}
-use Rattle.order.proofs.BoolLaws.{eq-or-ne, le-or-lt}
+use Rattle.loops.specs.Loops.{pick}
+use Rattle.loops.proofs.BoolLaws.{eq-or-ne, le-or-lt}
 use Rattle.model.specs.Parts.{Counts, Write, Message, heartbeat, State, stamp, end}
 use Rattle.model.specs.Rules.{holds, roomy, send}
 use Rattle.paper.specs.Calls.{Call, tick, first}

@@ -9,7 +9,7 @@ use mathlib.Core.List.{List, [], _∷_, _++_}
 use Rattle.order.specs.Vector.{covered}
 use Rattle.order.specs.Order.{above}
 use Rattle.order.proofs.VectorLaws.{covered-same}
-use Rattle.order.proofs.LoopLaws.{times-same}
+use Rattle.loops.proofs.LoopLaws.{times-same}
 use Rattle.model.specs.Parts.{Counts, Version, Write, rank, stamp, lowest, end, room}
 use Rattle.paper.specs.Calls.{Call, write, tick, take, numberIn}
 use Rattle.model.specs.Calls.{shelfOf}

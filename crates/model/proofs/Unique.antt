@@ -9,7 +9,7 @@ use mathlib.Core.Bool.{true, false}
 use mathlib.Core.List.{List, [], _∷_, _++_}
 use Rattle.order.specs.Vector.{zeros}
 use Rattle.order.specs.Order.{above}
-use Rattle.order.proofs.BoolLaws.{both-ways, decided}
+use Rattle.loops.proofs.BoolLaws.{both-ways, decided}
 use Rattle.order.proofs.VectorLaws.{written-at}
 use Rattle.order.proofs.OrderLaws.{above-total, above-written}
 use Rattle.model.specs.Parts.{Counts, Version, Write, rank, stamp, unwritten}

@@ -5,7 +5,7 @@ use native.Mathlib.Omega.{arith}
 use mathlib.Core.Path.{_≡_, refl, sym, subst, ap, _∙_}
 use mathlib.Core.Logic.{⊎-elim}
 use mathlib.Core.List.{List}
-use Rattle.order.proofs.BoolLaws.{eq-or-ne}
+use Rattle.loops.proofs.BoolLaws.{eq-or-ne}
 use Rattle.model.specs.Parts.{Counts, State, setShelf, setCrew}
 use Rattle.model.specs.Rules.{settle, keep, emit, send}
 use Rattle.paper.specs.Calls.{Call, read, write, tick, take, refresh}

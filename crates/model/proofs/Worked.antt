@@ -6,13 +6,13 @@ use Prim.Native.Nat.{ℕ}
 use mathlib.Core.List.{_∷_}
 use mathlib.Core.Bool.{true}
 use lib.Dec.{eqb}
-use Rattle.order.specs.Loops.{pick}
+use Rattle.loops.specs.Loops.{pick}
 use Rattle.order.specs.Order.{Rank, above}
 use Rattle.order.proofs.OrderCases.{above-case}
 use Rattle.model.specs.Parts.{State, fresh}
 use Rattle.paper.specs.Calls.{tick, take}
 use Rattle.model.specs.Calls.{answers, step}
-use Rattle.model.specs.System.{after, run}
+use Rattle.model.specs.System.{after}
 use Rattle.model.specs.Cases.{counts, homes, listingToB, listing, listingAnswers, stableAfter, caseD, caseDAnswers}
 use Rattle.model.specs.Cases.{caseE, caseEAnswers, caseF, caseFAnswers, manyTicks, manyDone, caseG, caseGAnswers, clockAfter, CasesHold}
 use Rattle.model.proofs.Lawful.{dominates, lawful, lawful-agrees, like, knowing, knowing-agrees}

@@ -6,7 +6,7 @@ use mathlib.Core.List.{List, [], _∷_, _++_}
 use lib.Dec.{eqb, ltb, leb}
 use lib.ListN.{length, getD}
 use Rattle.paper.specs.Calls.{Call, read, write, tick, take, refresh, Told, read-value, read-unwritten, Answer, refused, done, reads, current, superseded, first}
-use Rattle.order.specs.Loops.{every, pick}
+use Rattle.loops.specs.Loops.{every, pick}
 use Rattle.order.specs.Vector.{Vec, merged, zeros}
 use Rattle.order.specs.Order.{above}
 use Rattle.model.specs.Parts.{mostDepots, mostShelves, mostBearings, mostCrews}

@@ -5,7 +5,7 @@ use mathlib.Core.Bool.{Bool, _&&_, _||_}
 use mathlib.Core.List.{List, [], _∷_, _++_}
 use lib.Dec.{eqb, ltb}
 use lib.ListN.{length}
-use Rattle.order.specs.Loops.{times, every, pick}
+use Rattle.loops.specs.Loops.{times, every, pick}
 use Rattle.order.specs.Vector.{Vec, covered}
 use Rattle.model.specs.Parts.{Counts, Version, Write, Message, copy, heartbeat, Shelf, State, put, lowest, other, greater, stampOf, setShelf, room}
 

@@ -1,5 +1,3 @@
-pub mod BoolLaws
-pub mod LoopLaws
 pub mod VectorLaws
 mod OrderForm
 mod OrderCode

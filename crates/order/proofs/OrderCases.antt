@@ -5,7 +5,7 @@ use Prim.Native.Nat.{ℕ, zero, suc, _<_}
 use native.Mathlib.Omega.{arith}
 use mathlib.Core.Path.{_≡_, _∙_}
 use mathlib.Core.Bool.{true, false}
-use Rattle.order.specs.Loops.{every}
+use Rattle.loops.specs.Loops.{every}
 use Rattle.order.specs.Vector.{Vec, agree, zeros, sum}
 use Rattle.order.specs.Order.{Rank, above, leads, outweighs, above-is}
 use Rattle.order.proofs.OrderLaws.{above-cong}

@@ -9,7 +9,7 @@ use lib.Dec.{ltb}
 use borrow.Author.Tests.{lt-ltb, le-ltb}
 use Rattle.order.specs.Vector.{zeros, sum}
 use Rattle.order.specs.Order.{Rank, above}
-use Rattle.order.proofs.BoolLaws.{decided, failed, le-or-lt}
+use Rattle.loops.proofs.BoolLaws.{decided, failed, le-or-lt}
 use Rattle.order.proofs.OrderForm.{heavier, earlier, ahead-never, Above, leading, higher, open-above, close-above}
 use Rattle.order.proofs.OrderLaws.{above-asym, above-unwritten}
 

@@ -11,7 +11,7 @@ use lib.Dec.{ltb, eqb}
 use borrow.Author.Tests.{lt-ltb, ltb-true, eq-eqb, eqb-true}
 use Rattle.order.specs.Vector.{Vec, agree, zeros, sum}
 use Rattle.order.specs.Order.{Rank, leads, outweighs, above, above-is}
-use Rattle.order.proofs.BoolLaws.{both-ways, failed, and-left, and-right, and-intro, or-cases, or-left, or-right, not-passed, not-failed, le-or-lt, eq-or-ne}
+use Rattle.loops.proofs.BoolLaws.{both-ways, failed, and-left, and-right, and-intro, or-cases, or-left, or-right, not-passed, not-failed, le-or-lt, eq-or-ne}
 use Rattle.order.proofs.VectorLaws.{agree-at, agree-intro, written-at, sum-same, sum-zeros}
 
 -- ---- the first difference

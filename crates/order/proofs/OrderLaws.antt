@@ -7,7 +7,7 @@ use mathlib.Core.Logic.{_⊎_, inl, inr, ⊎-elim}
 use mathlib.Core.Bool.{true, false, not}
 use Rattle.order.specs.Vector.{Vec, zeros}
 use Rattle.order.specs.Order.{Rank, above, above-is}
-use Rattle.order.proofs.BoolLaws.{decided, failed, both-ways, le-or-lt}
+use Rattle.loops.proofs.BoolLaws.{decided, failed, both-ways, le-or-lt}
 use Rattle.order.proofs.VectorLaws.{zeros-same, sum-less}
 use Rattle.order.proofs.OrderForm.{heavier, ahead-never, ahead-trans, ahead-same, ahead-written, Compared, equal, ahead, behind, compared}
 use Rattle.order.proofs.OrderForm.{Above, leading, higher, open-above, close-above}

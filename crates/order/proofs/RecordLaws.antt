@@ -11,7 +11,7 @@ use borrow.Author.Tests.{eq-eqb, ne-eqb}
 use Rattle.order.specs.Vector.{vectorIn, zeros, sum}
 use Rattle.order.specs.Order.{Rank}
 use Rattle.order.specs.Record.{recordWords, mostDepots, vectorOf, rankOf, rankIn, unwritten}
-use Rattle.order.proofs.BoolLaws.{pick-true, pick-false}
+use Rattle.loops.proofs.BoolLaws.{pick-true, pick-false}
 use Rattle.order.proofs.VectorLaws.{zeros-intro, zeros-same, sum-same}
 
 pub rank-right : (r : List ℕ) → length r ≡ recordWords → rankIn r ≡ rankOf r

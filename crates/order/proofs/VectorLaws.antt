@@ -12,10 +12,10 @@ use lib.Dec.{leb, eqb}
 use lib.ListN.{length, getD, set, length-set}
 use lib.Seq.{getD-set-same, getD-set-other, set-getD}
 use borrow.Author.Tests.{le-leb, leb-true, eq-eqb, eqb-true, ne-eqb}
-use Rattle.order.specs.Loops.{times, every, pick}
+use Rattle.loops.specs.Loops.{times, pick}
 use Rattle.order.specs.Vector.{Vec, covered, zeros, agree, sum, mergeOne, mergedAt}
-use Rattle.order.proofs.BoolLaws.{failed, or-cases, or-left, or-right, le-or-lt, eq-or-ne, pick-true, pick-false}
-use Rattle.order.proofs.LoopLaws.{times-keeps, every-none, every-more, every-at, every-intro, every-fails, every-same}
+use Rattle.loops.proofs.BoolLaws.{failed, or-cases, or-left, or-right, le-or-lt, eq-or-ne, pick-true, pick-false}
+use Rattle.loops.proofs.LoopLaws.{times-keeps, every-none, every-more, every-at, every-intro, every-same}
 
 -- covered in all entries but one
 pub covered-at : (n d : ℕ) (u v : Vec) → covered n d u v ≡ true → (x : ℕ) → x < n → (x ≡ d → ⊥) → u x ≤ v x

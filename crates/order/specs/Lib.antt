@@ -1,4 +1,3 @@
-pub mod Loops
 pub mod Vector
 pub mod Order
 pub mod Record

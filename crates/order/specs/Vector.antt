@@ -5,7 +5,7 @@ use mathlib.Core.Bool.{Bool, _||_}
 use mathlib.Core.List.{List}
 use lib.Dec.{leb, eqb}
 use lib.ListN.{getD, set}
-use Rattle.order.specs.Loops.{times, every, pick}
+use Rattle.loops.specs.Loops.{times, every, pick}
 
 abbrev pub Vec : Type 0
 Vec = ℕ → ℕ

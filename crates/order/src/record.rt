@@ -4,7 +4,7 @@ use crate::vector::sum_of;
 ghost use mathlib.Core.Path.{_≡_};
 ghost use Prim.Native.Nat.{_≤_, min};
 ghost use lib.ListN.{length};
-ghost use Rattle.order.specs.Loops.{pick};
+ghost use Rattle.loops.specs.Loops.{pick};
 ghost use Rattle.order.specs.Order.{above};
 ghost use Rattle.order.specs.Record.{recordWords, mostDepots, rankOf, rankIn};
 

@@ -5,7 +5,7 @@ use mathlib.Core.Path.{_≡_}
 use mathlib.Core.Bool.{Bool, true, false}
 use mathlib.Core.List.{List, [], _∷_}
 use lib.Dec.{eqb}
-use Rattle.order.specs.Loops.{pick}
+use Rattle.loops.specs.Loops.{pick}
 
 -- read (crew, bearing), write (crew, bearing, value), tick (depot, shelf), take (at depot, shelf, from depot), refresh (depot, shelf)
 pub data Call : Type 0 where

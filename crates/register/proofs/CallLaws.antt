@@ -1,15 +1,14 @@
 -- From the number of a call to its answer and its book: what a refusal and a done call come to, and what the shared checks tell.
 -- Assumes nothing.
-use Prim.Native.Nat.{ℕ, _≤_, _<_}
+use Prim.Native.Nat.{ℕ, _<_}
 use native.Mathlib.Omega.{arith}
-use mathlib.Core.Path.{_≡_, refl, sym, _∙_, ap}
-use mathlib.Core.List.{List, [], _∷_, _++_}
-use mathlib.Core.Logic.{⊎-elim}
-use mathlib.Core.Bool.{Bool, true, false}
+use mathlib.Core.Path.{_≡_, sym, _∙_, ap}
+use mathlib.Core.List.{List, [], _∷_}
+use mathlib.Core.Bool.{false}
 use lib.Dec.{eqb}
 use borrow.Author.Tests.{eqb-true, eq-eqb, ne-eqb}
-use Rattle.order.specs.Loops.{pick}
-use Rattle.order.proofs.BoolLaws.{decided, pick-true, pick-false}
+use Rattle.loops.specs.Loops.{pick}
+use Rattle.loops.proofs.BoolLaws.{pick-true, pick-false}
 use Rattle.book.specs.declared.numbers.Depot.{Depot}
 use Rattle.book.specs.declared.numbers.Shelf.{Shelf}
 use Rattle.book.specs.declared.numbers.Bearing.{Bearing}
@@ -23,10 +22,9 @@ use Rattle.register.specs.declared.check.PlaceCheck.{PlaceCheck}
 use Rattle.register.specs.declared.check.AskCheck.{AskCheck}
 use Rattle.register.specs.declared.check.LinkCheck.{LinkCheck}
 use Rattle.register.specs.Answers.{refusalOf, answerOf, readRefused, writeRefused}
-use Rattle.paper.specs.Calls.{first}
 use Rattle.register.specs.Checks.{placeOfNumber, askedOf, linkOfNumber}
 use Rattle.register.specs.Promises.{after}
-use Rattle.register.proofs.TableLaws.{chose-first, chose-second, first-stop, first-next}
+use Rattle.register.proofs.TableLaws.{chose-first, chose-second}
 
 -- ---- a refusal, and done
 

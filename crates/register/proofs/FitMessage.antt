@@ -10,13 +10,13 @@ use lib.Dec.{ltb, eqb}
 use borrow.Author.Tests.{leb-true, le-leb, ltb-true, lt-ltb, eqb-true, eq-eqb, ne-eqb}
 use Rattle.order.specs.Vector.{zeros}
 use Rattle.order.specs.Record.{bearingOf, originOf, vectorOf}
-use Rattle.order.proofs.BoolLaws.{and-left, and-right, and-intro, or-cases, or-left, or-right, pick-true, pick-false}
-use Rattle.order.proofs.LoopLaws.{every-at, every-intro}
+use Rattle.loops.proofs.BoolLaws.{and-left, and-right, and-intro, or-cases, or-left, or-right, pick-true, pick-false}
+use Rattle.loops.proofs.LoopLaws.{every-at, every-intro}
 use Rattle.order.proofs.VectorLaws.{zeros-at}
 use Rattle.book.specs.declared.parts.Counts.{Counts}
 use Rattle.book.specs.Layout.{end, copyKind, beatKind, kindOf, beatOf, recordOf}
 use Rattle.fit.specs.Fit.{inRange, versionFit, carriedFit, copyFit, beatFit, messageFit, keptFit}
-use Rattle.shelf.specs.Send.{stampFrom}
+use Rattle.links.specs.Send.{stampFrom}
 use Rattle.register.proofs.FitParts.{IsCopy, IsMessage}
 
 pub record VersionOk (n : Counts) (r : List ℕ) : Type 0 where

@@ -9,9 +9,9 @@ use mathlib.Core.Bool.{true, _&&_}
 use lib.Dec.{leb, eqb}
 use lib.ListN.{length}
 use borrow.Author.Tests.{leb-true, le-leb, ltb-true, lt-ltb, eqb-true, eq-eqb}
-use Rattle.order.specs.Loops.{every}
-use Rattle.order.proofs.BoolLaws.{and-left, and-right, and-intro, or-cases, or-left, or-right, eq-or-ne}
-use Rattle.order.proofs.LoopLaws.{every-at, every-intro}
+use Rattle.loops.specs.Loops.{every}
+use Rattle.loops.proofs.BoolLaws.{and-left, and-right, and-intro, or-cases, or-left, or-right, eq-or-ne}
+use Rattle.loops.proofs.LoopLaws.{every-at, every-intro}
 use Rattle.order.proofs.VectorLaws.{covered-at, covered-intro}
 use Rattle.book.specs.declared.parts.Counts.{Counts}
 use Rattle.book.specs.Layout.{end, countsOf, home, crewVector, clock, stable, seen, linkOf, held, taken, slot, stored}
@@ -79,7 +79,7 @@ link-open n l s from q h =
       messages = all-slots (IsMessage n s from) l q (taken l q) (held l q - taken l q) (every-at (held l q - taken l q) _ (and-right (every (taken l q) (λ i. copyFit n s from (slot l q i))) _ h2));
     }
 
-link-close : (n : Counts) (l : List ℕ) (s from q : ℕ) → LinkOk n l s from q → linkFit n l s from q ≡ true
+pub link-close : (n : Counts) (l : List ℕ) (s from q : ℕ) → LinkOk n l s from q → linkFit n l s from q ≡ true
 unfolding linkFit headFit messagesFit takenSlots untakenSlots
 link-close n l s from q h =
     and-intro (and-intro (le-leb _ _ (h .room)) (le-leb _ _ (h .first)))

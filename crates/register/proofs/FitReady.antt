@@ -10,16 +10,16 @@ use mathlib.Core.Bool.{true}
 use lib.Dec.{eqb, ltb}
 use lib.Seq.{getD-set-other}
 use borrow.Author.Tests.{eqb-true, ltb-true, ne-eqb}
-use Rattle.order.proofs.BoolLaws.{and-left, and-right, or-cases, or-next}
-use Rattle.order.proofs.LoopLaws.{every-at}
+use Rattle.loops.proofs.BoolLaws.{and-left, and-right, or-cases, or-next}
+use Rattle.loops.proofs.LoopLaws.{every-at}
 use Rattle.book.specs.declared.parts.Counts.{Counts}
 use Rattle.book.specs.Layout.{crewAt, heldAt, countsOf, home, crewVector, linkOf, held, taken, slot}
 use Rattle.fit.specs.Fit.{Within, crewFit, stableFit, linkFit, storedFit}
-use Rattle.fit.specs.Named.{arrivalFit, showFit, homeParts, readParts, writeParts}
-use Rattle.fit.proofs.NamedLaws.{Based, base-open, write-based, write-named}
+use Rattle.named.specs.Named.{arrivalFit, showFit, homeParts, readParts, writeParts}
+use Rattle.named.proofs.NamedLaws.{Based, base-open, write-based, write-named}
 use Rattle.shelf.specs.Asks.{Sound, Ready, Free}
 use Rattle.shelf.specs.Show.{keptIn}
-use Rattle.shelf.specs.Send.{roomy}
+use Rattle.links.specs.Send.{roomy}
 use Rattle.shelf.proofs.FrameLaws.{kept-in-low}
 use Rattle.shelf.proofs.AllLaws.{all-slots-at}
 use Rattle.shelf.proofs.ShowLaws.{takenSlots}

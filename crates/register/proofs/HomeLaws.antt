@@ -11,22 +11,22 @@ use lib.Dec.{ltb}
 use lib.ListN.{getD, take, drop}
 use lib.Seq.{getD-take, getD-drop}
 use borrow.Author.Tests.{ltb-true}
-use Rattle.order.specs.Loops.{pick}
+use Rattle.loops.specs.Loops.{pick}
 use Rattle.order.specs.Vector.{Vec, vectorIn, mergeOne, mergedAt}
 use Rattle.order.specs.Record.{vectorOf}
-use Rattle.order.proofs.BoolLaws.{decided, pick-true, pick-false}
-use Rattle.order.proofs.LoopLaws.{times-same}
+use Rattle.loops.proofs.BoolLaws.{decided, pick-true, pick-false}
+use Rattle.loops.proofs.LoopLaws.{times-same}
 use Rattle.book.specs.declared.parts.Counts.{Counts}
 use Rattle.book.specs.Layout.{stableAt, storedAt, crewAt, countsOf, home, crewVector, stored}
 use Rattle.book.proofs.WordsLaws.{part-from}
 use Rattle.shelf.specs.Asks.{Ready}
 use Rattle.shelf.specs.Show.{shown, settled}
-use Rattle.shelf.specs.Send.{fourOf}
+use Rattle.links.specs.Send.{fourOf}
 use Rattle.register.specs.declared.answer.ReadAnswer.{ReadAnswer}
 use Rattle.register.specs.Answers.{cut, tells}
 use Rattle.register.specs.Calls.{settledHome, readRecord, readBook}
-use Rattle.fit.specs.Named.{tickParts, homeParts, readParts, writeParts}
-use Rattle.fit.proofs.NamedLaws.{Based}
+use Rattle.named.specs.Named.{tickParts, homeParts, readParts, writeParts}
+use Rattle.named.proofs.NamedLaws.{Based}
 use Rattle.register.proofs.FitReady.{read-ready}
 use Rattle.register.proofs.MadeLaws.{cut-at}
 

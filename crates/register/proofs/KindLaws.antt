@@ -5,7 +5,7 @@ use native.Mathlib.Omega.{arith}
 use mathlib.Core.Path.{_≡_, _∙_, sym}
 use lib.Dec.{ltb}
 use borrow.Author.Tests.{ltb-true, ltb-false}
-use Rattle.order.specs.Loops.{pick}
+use Rattle.loops.specs.Loops.{pick}
 use Rattle.register.proofs.TableLaws.{chose-first, chose-second}
 use Rattle.book.specs.declared.numbers.Depot.{Depot}
 use Rattle.book.specs.declared.numbers.DepotCheck.{DepotCheck}

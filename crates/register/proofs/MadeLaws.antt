@@ -9,7 +9,7 @@ use lib.Seq.{getD-drop}
 use borrow.Author.Tests.{lt-ltb}
 use Rattle.order.specs.Vector.{Vec}
 use Rattle.order.specs.Record.{bearingOf, originOf, vectorOf}
-use Rattle.order.proofs.BoolLaws.{pick-true}
+use Rattle.loops.proofs.BoolLaws.{pick-true}
 use Rattle.book.specs.Words.{part}
 use Rattle.book.specs.Layout.{copyKind, countsOf, home, recordOf}
 use Rattle.register.specs.Answers.{cut}

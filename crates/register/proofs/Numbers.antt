@@ -8,14 +8,14 @@ use mathlib.Core.Bool.{Bool, true, false, not, _||_}
 use lib.Dec.{eqb, ltb, leb}
 use lib.ListN.{length, getD}
 use borrow.Author.Tests.{leb-false, ltb-false, ltb-true, eqb-true, eqb-false, not-false}
-use Rattle.order.specs.Loops.{pick, every}
-use Rattle.order.proofs.BoolLaws.{both-ways}
-use Rattle.order.proofs.LoopLaws.{every-at}
+use Rattle.loops.specs.Loops.{pick, every}
+use Rattle.loops.proofs.BoolLaws.{both-ways}
+use Rattle.loops.proofs.LoopLaws.{every-at}
 use Rattle.book.specs.declared.parts.Counts.{Counts}
 use Rattle.book.specs.Layout.{end, bookWords, countsOf, home, crewVector, clock, linkOf, held, taken}
 use Rattle.fit.specs.Fit.{countsFit}
-use Rattle.fit.specs.Named.{baseFit, tickFit, takeFit, refreshFit, readFit, writeFit}
-use Rattle.shelf.specs.Send.{roomy}
+use Rattle.named.specs.Named.{baseFit, tickFit, takeFit, refreshFit, readFit, writeFit}
+use Rattle.links.specs.Send.{roomy}
 use Rattle.paper.specs.Calls.{first}
 use Rattle.register.specs.Table.{shelfOf, setupNumber, readNumber, writeNumber, tickNumber, takeNumber, refreshNumber}
 use Rattle.register.specs.Checks.{placeNumber, askedNumber}

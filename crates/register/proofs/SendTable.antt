@@ -3,14 +3,14 @@
 use Prim.Native.Nat.{ℕ, _≤_, _<_}
 use mathlib.Core.Path.{_≡_, _∙_, ap}
 use mathlib.Core.List.{List, [], _∷_}
-use mathlib.Core.Bool.{true, false, not, _||_}
+use mathlib.Core.Bool.{true, false, not}
 use lib.Dec.{leb, ltb, eqb}
 use borrow.Author.Tests.{le-leb, lt-leb, lt-ltb, le-ltb, eq-eqb, ne-eqb}
-use Rattle.order.proofs.BoolLaws.{not-failed, or-next, or-stop}
+use Rattle.loops.proofs.BoolLaws.{not-failed, or-next, or-stop}
 use Rattle.book.specs.Layout.{end, countsOf, home, crewVector, clock, linkOf, held, taken}
-use Rattle.fit.specs.Named.{baseFit, tickParts, takeParts, refreshParts, readParts, writeParts, tickFit, takeFit, refreshFit, readFit, writeFit}
-use Rattle.fit.proofs.NamedLaws.{tick-named, take-named, refresh-named, read-named, write-named}
-use Rattle.shelf.specs.Send.{roomy}
+use Rattle.named.specs.Named.{baseFit, tickParts, takeParts, refreshParts, readParts, writeParts, tickFit, takeFit, refreshFit, readFit, writeFit}
+use Rattle.named.proofs.NamedLaws.{tick-named, take-named, refresh-named, read-named, write-named}
+use Rattle.links.specs.Send.{roomy}
 use Rattle.paper.specs.Calls.{first}
 use Rattle.register.specs.Table.{shelfOf, readNumber, refreshNumber, tickNumber, takeNumber, writeNumber}
 use Rattle.register.specs.Checks.{placeNumber, askedNumber, linkNumber}

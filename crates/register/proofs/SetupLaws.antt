@@ -10,8 +10,8 @@ use lib.Dec.{eqb, ltb}
 use lib.ListN.{length, getD, replicate, length-replicate}
 use lib.Seq.{ext-getD}
 use borrow.Author.Tests.{eq-eqb, ne-eqb}
-use Rattle.order.specs.Loops.{every}
-use Rattle.order.proofs.BoolLaws.{pick-false, not-failed, or-left, or-right, or-next}
+use Rattle.loops.specs.Loops.{every}
+use Rattle.loops.proofs.BoolLaws.{pick-false, not-failed, or-left, or-right, or-next}
 use Rattle.book.specs.declared.parts.Counts.{Counts}
 use Rattle.book.specs.Words.{put}
 use Rattle.book.specs.Layout.{homeAt}

@@ -7,10 +7,10 @@ use mathlib.Core.List.{List, [], _∷_}
 use mathlib.Core.Bool.{Bool, true, false, not, _&&_, _||_, true≢false}
 use lib.Dec.{eqb}
 use borrow.Author.Tests.{le-leb, lt-leb}
-use Rattle.order.specs.Loops.{pick}
-use Rattle.order.proofs.BoolLaws.{decided, pick-true, pick-false, not-failed}
+use Rattle.loops.specs.Loops.{pick}
+use Rattle.loops.proofs.BoolLaws.{decided, pick-true, pick-false, not-failed}
 use Rattle.book.specs.Layout.{countsOf}
-use Rattle.fit.specs.Named.{baseFit}
+use Rattle.named.specs.Named.{baseFit}
 use Rattle.paper.specs.Calls.{first, Says, here, later, otherwise}
 use Rattle.register.specs.Checks.{placeNumber, askedNumber}
 

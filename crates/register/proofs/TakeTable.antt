@@ -3,14 +3,13 @@
 use Prim.Native.Nat.{ℕ, _≤_, _<_}
 use native.Mathlib.Omega.{arith}
 use mathlib.Core.Path.{_≡_, _∙_, ap}
-use mathlib.Core.List.{List, [], _∷_}
+use mathlib.Core.List.{List}
 use mathlib.Core.Bool.{true, false, not, _||_}
 use lib.Dec.{leb}
 use borrow.Author.Tests.{le-leb, lt-leb, leb-false, not-false}
-use Rattle.order.proofs.BoolLaws.{not-failed, or-left, or-right, or-next}
+use Rattle.loops.proofs.BoolLaws.{not-failed, or-left, or-right, or-next}
 use Rattle.book.specs.Layout.{countsOf}
-use Rattle.fit.specs.Named.{baseFit}
-use Rattle.paper.specs.Calls.{first}
+use Rattle.named.specs.Named.{baseFit}
 use Rattle.register.specs.Checks.{linkNumber}
 use Rattle.register.proofs.TableLaws.{first-stop, first-next, first-none}
 use Rattle.register.proofs.Numbers.{first-passed, or-none}

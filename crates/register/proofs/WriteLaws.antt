@@ -10,24 +10,23 @@ use lib.Dec.{eqb}
 use lib.ListN.{length, getD, set, take, drop}
 use lib.Seq.{getD-set-same, getD-set-other}
 use borrow.Author.Tests.{eq-eqb, ne-eqb}
-use Rattle.order.specs.Loops.{pick}
+use Rattle.loops.specs.Loops.{pick}
 use Rattle.order.specs.Vector.{Vec, vectorIn}
 use Rattle.order.specs.Order.{above}
 use Rattle.order.specs.Record.{bearingOf, rankOf}
-use Rattle.order.proofs.BoolLaws.{eq-or-ne, pick-true, pick-false}
+use Rattle.loops.proofs.BoolLaws.{eq-or-ne, pick-true, pick-false}
 use Rattle.book.specs.Words.{put}
 use Rattle.book.specs.Layout.{copyKind, crewAt, storedAt, countsOf, home, crewVector, stored}
 use Rattle.book.proofs.WordsLaws.{part-from}
 use Rattle.shelf.specs.Asks.{Ready, Free}
 use Rattle.shelf.specs.Show.{keptIn, settled}
-use Rattle.shelf.specs.Send.{sent, fourOf}
+use Rattle.links.specs.Send.{sent, fourOf}
 use Rattle.register.specs.Answers.{cut, writes}
 use Rattle.register.specs.declared.answer.WriteAnswer.{WriteAnswer}
 use Rattle.register.specs.Checks.{MayWrite}
-use Rattle.register.specs.Table.{shelfOf}
 use Rattle.register.specs.Calls.{settledHome, newStamp, withEntry, madeVector, madeRecord, writtenCrew, isCurrent, writeBook}
 use Rattle.register.proofs.Numbers.{WriteDone, write-done}
-use Rattle.fit.proofs.NamedLaws.{Based}
+use Rattle.named.proofs.NamedLaws.{Based}
 use Rattle.register.proofs.FitReady.{based, ready, free}
 use Rattle.register.proofs.HomeLaws.{cut-same, four-at}
 

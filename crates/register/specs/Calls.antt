@@ -5,7 +5,7 @@ use mathlib.Core.Bool.{Bool}
 use mathlib.Core.List.{List, [], _∷_}
 use lib.Dec.{eqb}
 use lib.ListN.{getD, set, replicate}
-use Rattle.order.specs.Loops.{pick}
+use Rattle.loops.specs.Loops.{pick}
 use Rattle.order.specs.Vector.{Vec, mergedAt}
 use Rattle.order.specs.Order.{above}
 use Rattle.order.specs.Record.{vectorOf, rankOf}
@@ -13,8 +13,8 @@ use Rattle.book.specs.declared.parts.Counts.{Counts}
 use Rattle.book.specs.Words.{put}
 use Rattle.book.specs.Layout.{bookWords, homeAt, crewAt, copyKind, countsOf, home, crewVector, clock, stored}
 use Rattle.shelf.specs.Show.{keptIn, settled}
-use Rattle.shelf.specs.Send.{sent, beat, took, lowestSeen}
-use Rattle.register.specs.declared.calls.write.Version.{Version}
+use Rattle.links.specs.Send.{sent, beat, took, lowestSeen}
+use Rattle.register.specs.declared.version.Version.{Version}
 use Rattle.register.specs.Answers.{cut}
 use Rattle.register.specs.Table.{shelfOf}
 

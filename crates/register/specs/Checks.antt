@@ -5,12 +5,12 @@ use mathlib.Core.Path.{_≡_}
 use mathlib.Core.Bool.{_||_, not}
 use mathlib.Core.List.{List, [], _∷_}
 use lib.Dec.{eqb, leb}
-use Rattle.order.specs.Loops.{pick}
+use Rattle.loops.specs.Loops.{pick}
 use Rattle.register.specs.declared.check.PlaceCheck.{PlaceCheck}
 use Rattle.register.specs.declared.check.AskCheck.{AskCheck}
 use Rattle.register.specs.declared.check.LinkCheck.{LinkCheck}
 use Rattle.book.specs.Layout.{countsOf, home, clock}
-use Rattle.fit.specs.Named.{baseFit}
+use Rattle.named.specs.Named.{baseFit}
 use Rattle.paper.specs.Calls.{first}
 use Rattle.register.specs.Table.{shelfOf, writeNumber}
 use Rattle.register.specs.Answers.{refusalOf}

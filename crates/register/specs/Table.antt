@@ -2,17 +2,17 @@
 -- check that fails it, and 0, done, otherwise.
 -- Assumes nothing.
 use Prim.Native.Nat.{ℕ, _%_}
-use mathlib.Core.Bool.{Bool, _||_, not}
+use mathlib.Core.Bool.{_||_, not}
 use mathlib.Core.List.{List, [], _∷_}
 use lib.Dec.{eqb, ltb, leb}
 use lib.ListN.{length, getD}
-use Rattle.order.specs.Loops.{every, pick}
+use Rattle.loops.specs.Loops.{every}
 use Rattle.paper.specs.Calls.{first}
 use Rattle.book.specs.declared.parts.Counts.{Counts}
 use Rattle.book.specs.Layout.{end, bookWords, countsOf, home, crewVector, clock, linkOf, held, taken}
 use Rattle.fit.specs.Fit.{countsFit}
-use Rattle.fit.specs.Named.{tickFit, takeFit, refreshFit, readFit, writeFit}
-use Rattle.shelf.specs.Send.{roomy}
+use Rattle.named.specs.Named.{tickFit, takeFit, refreshFit, readFit, writeFit}
+use Rattle.links.specs.Send.{roomy}
 
 -- bearing k lies on shelf k mod P
 abbrev pub shelfOf : List ℕ → ℕ → ℕ

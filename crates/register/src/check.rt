@@ -9,7 +9,7 @@ use book::numbers::DepotCheck;
 use book::numbers::Shelf;
 use book::numbers::ShelfCheck;
 use book::parts::counts_of;
-use fit::named::base_fits;
+use named::base_fits;
 ghost use mathlib.Core.Path.{_≡_};
 ghost use Rattle.register.specs.Checks.{placeNumber, placeOfNumber, askedNumber, askedOf, linkNumber, linkOfNumber};
 

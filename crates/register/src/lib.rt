@@ -1,4 +1,5 @@
-// The register: six calls over one lent book of 16,384 words. Any slice and any numbers get an answer; a refused call changes not one word.
+// What the calls share: answers, the checks of numbers, a crew at its home, and the promise of each call. The calls are in crates of their own.
 pub mod answer;
-pub mod calls;
 pub mod check;
+pub mod home;
+pub mod version;

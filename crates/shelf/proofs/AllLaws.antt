@@ -7,12 +7,12 @@ use mathlib.Core.Path.{_≡_, sym, subst}
 use mathlib.Core.Logic.{⊎-elim}
 use mathlib.Core.List.{List, [], _∷_, _++_}
 use mathlib.Core.Bool.{Bool, true, false}
-use Rattle.order.specs.Loops.{pick}
+use Rattle.loops.specs.Loops.{pick}
 use lib.Dec.{eqb}
 use borrow.Author.Tests.{eqb-true}
 use Rattle.order.specs.Order.{above}
 use Rattle.order.specs.Record.{bearingOf, rankOf}
-use Rattle.order.proofs.BoolLaws.{eq-or-ne}
+use Rattle.loops.proofs.BoolLaws.{eq-or-ne}
 use Rattle.book.specs.Layout.{slot, recordOf}
 use Rattle.shelf.proofs.FrameLaws.{pick-cases}
 use Rattle.shelf.proofs.SlotLaws.{listed, slots}

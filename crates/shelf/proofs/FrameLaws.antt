@@ -9,9 +9,9 @@ use mathlib.Core.List.{List}
 use mathlib.Core.Bool.{Bool, true, false}
 use lib.ListN.{length, getD, set, drop, length-take, length-set, length-replicate}
 use lib.Seq.{getD-set-same, getD-set-other}
-use Rattle.order.specs.Loops.{times, pick}
+use Rattle.loops.specs.Loops.{times, pick}
 use Rattle.order.specs.Record.{bearingOf}
-use Rattle.order.proofs.BoolLaws.{le-or-lt}
+use Rattle.loops.proofs.BoolLaws.{le-or-lt}
 use Rattle.book.specs.Words.{part, put}
 use Rattle.book.specs.Layout.{storedAt, slotAt, heldAt, takenAt, slot, held, taken, recordOf}
 use Rattle.book.proofs.WordsLaws.{length-put, put-out, part-same}

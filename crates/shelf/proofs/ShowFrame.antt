@@ -8,11 +8,11 @@ use mathlib.Core.List.{List}
 use lib.Dec.{eqb}
 use lib.ListN.{length, getD}
 use borrow.Author.Tests.{eqb-false}
-use Rattle.order.specs.Loops.{times, pick}
+use Rattle.loops.specs.Loops.{times, pick}
 use Rattle.order.specs.Vector.{Vec, mergedAt}
 use Rattle.order.specs.Record.{bearingOf}
 use Rattle.order.proofs.VectorLaws.{length-merged, merged-other}
-use Rattle.book.specs.Layout.{stableAt, storedAt, slotAt, heldAt, takenAt, linkOf, slot, held, taken, stored, recordOf}
+use Rattle.book.specs.Layout.{stableAt, storedAt, slotAt, heldAt, takenAt, linkOf, held, taken, stored, recordOf}
 pub use Rattle.shelf.specs.Asks.{Sound, Ready}
 use Rattle.shelf.specs.Show.{swept, shownLink, shown, settled}
 use Rattle.shelf.proofs.FrameLaws.{Off, off-sides, pick-cases, times-grows, part-off, length-swept, swept-kept, swept-low, swept-off, length-swept-up, swept-up-off}

@@ -10,11 +10,11 @@ use mathlib.Core.Bool.{Bool}
 use lib.Dec.{eqb}
 use lib.ListN.{length, getD}
 use borrow.Author.Tests.{eq-eqb, ne-eqb}
-use Rattle.order.specs.Loops.{times, pick}
+use Rattle.loops.specs.Loops.{times, pick}
 use Rattle.order.specs.Vector.{Vec, mergedAt}
 use Rattle.order.specs.Record.{bearingOf}
-use Rattle.order.proofs.BoolLaws.{pick-true, pick-false, eq-or-ne}
-use Rattle.order.proofs.LoopLaws.{times-suc, times-same}
+use Rattle.loops.proofs.BoolLaws.{pick-true, pick-false, eq-or-ne}
+use Rattle.loops.proofs.LoopLaws.{times-suc, times-same}
 use Rattle.order.proofs.VectorLaws.{length-merged}
 use Rattle.book.specs.Layout.{stableAt, storedAt, slotAt, heldAt, takenAt, linkOf, slot, held, taken, stored, recordOf}
 use Rattle.shelf.specs.Show.{shownLink, shown, settled}

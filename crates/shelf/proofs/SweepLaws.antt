@@ -10,11 +10,11 @@ use mathlib.Core.Bool.{Bool, true, false}
 use lib.Dec.{eqb, lit≤}
 use lib.ListN.{length, getD}
 use borrow.Author.Tests.{eq-eqb, ne-eqb}
-use Rattle.order.specs.Loops.{times, pick}
+use Rattle.loops.specs.Loops.{times, pick}
 use Rattle.order.specs.Vector.{covered}
 use Rattle.order.specs.Order.{above}
 use Rattle.order.specs.Record.{bearingOf, vectorOf, rankOf}
-use Rattle.order.proofs.BoolLaws.{decided, pick-true, pick-false, eq-or-ne}
+use Rattle.loops.proofs.BoolLaws.{decided, pick-true, pick-false, eq-or-ne}
 use Rattle.order.proofs.VectorLaws.{covered-same}
 use Rattle.book.specs.Words.{part, put}
 use Rattle.book.specs.Layout.{stableAt, storedAt, slotAt, slot, stored, stable, recordOf}

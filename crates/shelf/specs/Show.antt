@@ -4,7 +4,7 @@ use Prim.Native.Nat.{ℕ, _+_, _*_, _-_}
 use mathlib.Core.List.{List}
 use lib.Dec.{eqb}
 use lib.ListN.{set, replicate}
-use Rattle.order.specs.Loops.{times, pick}
+use Rattle.loops.specs.Loops.{times, pick}
 use Rattle.order.specs.Vector.{Vec, covered, mergedAt}
 use Rattle.order.specs.Order.{above}
 use Rattle.order.specs.Record.{bearingOf, vectorOf, rankOf}

@@ -23,12 +23,12 @@ use order::vector::merge;
 ghost use mathlib.Core.Path.{_≡_};
 ghost use Prim.Native.Nat.{ℕ, _+_, _≤_, _<_};
 ghost use lib.Dec.{eqb};
-ghost use Rattle.order.specs.Loops.{pick};
+ghost use Rattle.loops.specs.Loops.{pick};
 ghost use lib.ListN.{length};
 ghost use Rattle.order.specs.Record.{recordWords, mostDepots, bearingOf, vectorOf};
-ghost use Rattle.order.specs.Vector.{vectorIn, covered, mergedAt};
+ghost use Rattle.order.specs.Vector.{vectorIn, covered};
 ghost use Rattle.book.specs.Words.{part, put};
-ghost use Rattle.book.specs.Layout.{bookWords, links, linkRoom, bearingRoom, mostShelves, stableAt, storedAt, slotAt, slot, stable, recordOf, linkOf};
+ghost use Rattle.book.specs.Layout.{bookWords, links, linkRoom, bearingRoom, mostShelves, storedAt, slotAt, slot, stable, recordOf, linkOf};
 ghost use Rattle.shelf.specs.Show.{keptIn, sweepOne, swept, shownLink, shown, settled};
 ghost use Rattle.shelf.specs.Asks.{Sound, Ready};
 

@@ -11,7 +11,7 @@ use lib.Dec.{lit≤}
 use lib.ListN.{length, getD, replicate, length-replicate, getD-replicate, List·getD-eq-default}
 use Rattle.order.specs.Vector.{zeros}
 use Rattle.order.specs.Record.{vectorOf}
-use Rattle.order.proofs.BoolLaws.{or-left, le-or-lt}
+use Rattle.loops.proofs.BoolLaws.{or-left, le-or-lt}
 use Rattle.order.proofs.VectorLaws.{zeros-intro}
 use Rattle.book.specs.declared.parts.Counts.{Counts}
 use Rattle.book.specs.Words.{put}

@@ -1,46 +1,54 @@
--- A write that is done leaves a fit book.
+-- A write that is done keeps every part of the book, and so leaves a fit book fit.
 -- Assumes nothing.
-use Prim.Native.Nat.{ℕ, suc, _%_, _≤_, _<_}
+use Prim.Native.Nat.{ℕ, suc, _+_, _%_, _≤_, _<_}
+use native.Mathlib.Nat.{le-of-eq}
 use native.Mathlib.Omega.{arith}
 use mathlib.Core.Path.{_≡_, refl, sym, _∙_, ap, subst}
 use mathlib.Core.List.{List, _∷_}
 use mathlib.Core.Bool.{true}
 use lib.Dec.{eqb}
+use lib.ListN.{getD}
+use lib.Seq.{getD-set-other}
 use borrow.Author.Tests.{eq-eqb}
 use Rattle.order.specs.Record.{bearingOf, originOf, vectorOf}
-use Rattle.order.proofs.BoolLaws.{pick-true}
-use Rattle.book.specs.Layout.{end, copyKind, countsOf, home, crewVector, clock}
+use Rattle.loops.proofs.BoolLaws.{and-left, pick-true}
+use Rattle.book.specs.Layout.{end, copyKind, crewAt, countsOf, home, crewVector, clock}
 use Rattle.fit.specs.Fit.{fit}
+use Rattle.named.specs.Named.{readParts, writeParts}
+use Rattle.named.proofs.NamedLaws.{Based}
 use Rattle.shelf.specs.Show.{keptIn}
-use Rattle.shelf.proofs.FrameLaws.{pick-cases}
+use Rattle.shelf.proofs.FrameLaws.{pick-cases, kept-in-low}
+use Rattle.links.proofs.SendFrame.{OffOut, sent-off}
 use Rattle.register.specs.Table.{shelfOf, writeNumber}
 use Rattle.register.specs.Calls.{settledHome, newStamp, madeVector, madeRecord, writtenCrew, writeBook}
-use Rattle.register.proofs.FitParts.{IsMessage, Whole, whole-open, whole-close}
+use Rattle.register.proofs.FitParts.{IsMessage, Whole}
 use Rattle.register.proofs.FitMessage.{VersionOk, copy-close, copy-message}
-use Rattle.upkeep.proofs.FitSent.{sent-whole}
-use Rattle.upkeep.proofs.FitStored.{crew-set-whole, kept-in-whole}
-use Rattle.upkeep.proofs.FitKept.{settled-home-whole}
 use Rattle.register.proofs.Numbers.{WriteDone, write-done}
 use Rattle.register.proofs.FitReady.{shelf-in, free}
 use Rattle.register.proofs.MadeLaws.{length-made, made-entry, made-record-of, made-bearing, made-origin}
+use Rattle.upkeep.proofs.FitFrame.{Keeps, keeps-then, keeps-fit}
+use Rattle.upkeep.proofs.FitSent.{sent-keeps}
+use Rattle.upkeep.proofs.FitSettled.{Settles, settles-then}
+use Rattle.upkeep.proofs.FitStored.{crew-set-keeps, kept-in-keeps}
+use Rattle.upkeep.proofs.FitKept.{HomeOk, home-open, whole-home, home-settles, write-asked}
 
 -- ---- the record
 
-pub made-version : (l : List ℕ) (c k value : ℕ) → Whole (countsOf l) l → c < countsOf l .crews → clock l (home l c) (shelfOf l k) < end → VersionOk (countsOf l) (madeRecord l c k value)
-made-version l c k value W hc hk =
+pub made-ok : (l : List ℕ) (c k value : ℕ) → HomeOk l c k → clock l (home l c) (shelfOf l k) < end → VersionOk (countsOf l) (madeRecord l c k value)
+made-ok l c k value H hk =
     record {
-      entries = λ x z. subst (λ (y : ℕ). y ≤ end) (sym (made-entry l c k value x (W .within .depots) z)) (range x z);
-      origin = unfold madeRecord in W .parts .homes c hc;
+      entries = λ x z. subst (λ (y : ℕ). y ≤ end) (sym (made-entry l c k value x (H .within .depots) z)) (range x z);
+      origin = unfold madeRecord in H .depot;
       stamp = subst (λ (y : ℕ). 0 < y) (sym stamped) (omega arith);
     }
   where
     range : (x : ℕ) → x < countsOf l .depots → madeVector l c k x ≤ end
-    range x z = unfold madeVector in pick-cases (λ (y : ℕ). y ≤ end) (eqb x (home l c)) (newStamp l c k) (crewVector l c x) (λ e. omega arith) λ e. W .parts .crews c hc x z
+    range x z = unfold madeVector in pick-cases (λ (y : ℕ). y ≤ end) (eqb x (home l c)) (newStamp l c k) (crewVector l c x) (λ e. omega arith) λ e. H .crew x z
 
     stamped : vectorOf (madeRecord l c k value) (originOf (madeRecord l c k value)) ≡ newStamp l c k
     stamped =
         ap (vectorOf (madeRecord l c k value)) origin
-        ∙ made-entry l c k value (home l c) (W .within .depots) (W .parts .homes c hc)
+        ∙ made-entry l c k value (home l c) (H .within .depots) (H .depot)
         ∙ own
       where
         origin : originOf (madeRecord l c k value) ≡ home l c
@@ -48,6 +56,11 @@ made-version l c k value W hc hk =
 
         own : madeVector l c k (home l c) ≡ newStamp l c k
         own = unfold madeVector in pick-true (newStamp l c k) (crewVector l c (home l c)) (eq-eqb (home l c) (home l c) refl)
+
+pub made-version :
+    (l : List ℕ) (c k value : ℕ) → Whole (countsOf l) l → c < countsOf l .crews → clock l (home l c) (shelfOf l k) < end →
+    VersionOk (countsOf l) (madeRecord l c k value)
+made-version l c k value W hc = made-ok l c k value (whole-home l c k W hc)
 
 -- ---- the copy
 
@@ -62,42 +75,80 @@ made-message l c k value hk ok =
       kind = refl;
       version = subst (VersionOk (countsOf l)) (sym e) ok;
       origin = ap originOf e ∙ made-origin l c k value;
-      bearing = subst (λ (r : List ℕ). bearingOf r < countsOf l .bearings) (sym e) (subst (λ (x : ℕ). x < countsOf l .bearings) (sym (made-bearing l c k value)) hk);
+      bearing =
+          subst (λ (r : List ℕ). bearingOf r < countsOf l .bearings) (sym e) (subst (λ (x : ℕ). x < countsOf l .bearings) (sym (made-bearing l c k value)) hk);
       shelf = ap (λ (r : List ℕ). bearingOf r % countsOf l .shelves) e ∙ ap (λ (x : ℕ). x % countsOf l .shelves) (made-bearing l c k value);
     }))
 
 -- ---- the book
 
-module _ (l : List ℕ) (c k value : ℕ) (F : fit l ≡ true) (t : WriteDone l c k) where
-  W : Whole (countsOf l) l
-  W = whole-open l F
+module _ (l : List ℕ) (c k value : ℕ) (t : WriteDone l c k) where
+  B : Based l
+  B = write-asked l c k t .0
 
-  hc : home l c < countsOf l .depots
-  hc = W .parts .homes c (t .crew)
+  H : HomeOk l c k
+  unfolding writeParts
+  H = home-open l c k B (t .crew) (and-left (readParts (countsOf l) l c k) _ (write-asked l c k t .1)) .0
 
-  hs : shelfOf l k < countsOf l .shelves
-  hs = shelf-in (countsOf l) (W .within) k
+  S : Settles (countsOf l) l (settledHome l c k) (home l c) (shelfOf l k)
+  S = home-settles l c k H
 
-  written : Whole (countsOf l) (writtenCrew l c k)
-  written =
+  crewed : Keeps (countsOf l) (settledHome l c k) (writtenCrew l c k)
+  crewed =
       let a = t .clocked in
-      unfold writtenCrew in crew-set-whole (countsOf l) (settledHome l c k) (settled-home-whole l c k W (t .crew)) c (home l c) (newStamp l c k) (t .crew) hc (omega arith)
+      unfold writtenCrew in
+      crew-set-keeps (countsOf l) (settledHome l c k) (B .within) (S .keeps .size ∙ B .full) c (home l c) (newStamp l c k) (t .crew) (H .depot) (omega arith)
 
-  version : VersionOk (countsOf l) (madeRecord l c k value)
-  version = made-version l c k value W (t .crew) (t .clocked)
+  kept : List ℕ
+  kept = keptIn (countsOf l .depots) (home l c) (madeRecord l c k value) (writtenCrew l c k)
 
-  storing : Whole (countsOf l) (keptIn (countsOf l .depots) (home l c) (madeRecord l c k value) (writtenCrew l c k))
+  storing : Keeps (countsOf l) (writtenCrew l c k) kept
+  unfolding kept
   storing =
-      kept-in-whole (countsOf l) (writtenCrew l c k) written (home l c) (madeRecord l c k value) hc (length-made l c k value) version
+      kept-in-keeps (countsOf l) (writtenCrew l c k) (B .within) (crewed .size ∙ S .keeps .size ∙ B .full) (home l c) (madeRecord l c k value)
+      (H .depot) (length-made l c k value) (made-ok l c k value H (t .clocked))
       (subst (λ (x : ℕ). x < countsOf l .bearings) (sym (made-bearing l c k value)) (t .bearing))
 
-  written-book : fit (writeBook l c k value) ≡ true
-  unfolding writeBook
-  written-book =
+  sending : Keeps (countsOf l) kept (writeBook l c k value)
+  unfolding kept writeBook
+  sending =
       let a = t .clocked in
-      whole-close (countsOf l) _
-      (sent-whole (countsOf l) _ storing (home l c) (shelfOf l k) (newStamp l c k) (copyKind ∷ madeRecord l c k value) hc hs (omega arith) (ap suc (length-made l c k value))
-      (made-message l c k value (t .bearing) version) (free l c k value t))
+      sent-keeps (countsOf l) kept (B .within) (storing .size ∙ crewed .size ∙ S .keeps .size ∙ B .full) (home l c) (shelfOf l k) (newStamp l c k)
+      (copyKind ∷ madeRecord l c k value) (H .depot) (shelf-in (countsOf l) (B .within) k) (omega arith) (ap suc (length-made l c k value))
+      (made-message l c k value (t .bearing) (made-ok l c k value H (t .clocked))) (free l c k value t)
+
+  -- the links into the shelf are left as raise and show left them
+  stays :
+      (j : ℕ) → 100 ≤ j → j < 10596 → OffOut (countsOf l .depots) (home l c) (shelfOf l k) kept j →
+      getD (writeBook l c k value) j 0 ≡ getD (settledHome l c k) j 0
+  unfolding kept writeBook writtenCrew
+  stays j low high out =
+      let a = B .within .depots in
+      let b = B .within .crews in
+      let e = B .within .shelves in
+      let g = t .crew in
+      let x = H .depot in
+      let y = shelf-in (countsOf l) (B .within) k in
+      sent-off (countsOf l .depots) (home l c) (shelfOf l k) (newStamp l c k) (copyKind ∷ madeRecord l c k value) kept
+      (le-of-eq (ap suc (length-made l c k value))) (free l c k value t) j (omega arith) out
+      ∙ kept-in-low (countsOf l .depots) (home l c) (madeRecord l c k value) (writtenCrew l c k) j high
+      ∙ getD-set-other (settledHome l c k) (crewAt c + home l c) j (newStamp l c k) 0 (omega arith)
+
+  written : Settles (countsOf l) l (writeBook l c k value) (home l c) (shelfOf l k)
+  unfolding kept
+  written =
+      let a = B .within .depots in
+      let e = B .within .shelves in
+      let x = H .depot in
+      let y = shelf-in (countsOf l) (B .within) k in
+      settles-then (countsOf l) l (settledHome l c k) (writeBook l c k value) (home l c) (shelfOf l k) y (H .depot) (H .arrivals) S
+      (keeps-then (countsOf l) _ _ _ crewed (keeps-then (countsOf l) _ _ _ storing sending))
+      (λ from z f j u v. stays j (omega arith) (omega arith) (λ to p q. let r = free l c k value t .room to p q in (omega arith, omega arith)))
+      (λ from z f j u v. stays j (omega arith) (omega arith) (λ to p q. let r = free l c k value t .room to p q in (omega arith, omega arith)))
+
+pub write-settles :
+    (l : List ℕ) (c k value : ℕ) → writeNumber l c k value ≡ 0 → Settles (countsOf l) l (writeBook l c k value) (home l c) (shelfOf l k)
+write-settles l c k value h = written l c k value (write-done l c k value h)
 
 pub write-fit : (l : List ℕ) (c k value : ℕ) → fit l ≡ true → writeNumber l c k value ≡ 0 → fit (writeBook l c k value) ≡ true
-write-fit l c k value F h = written-book l c k value F (write-done l c k value h)
+write-fit l c k value F h = keeps-fit l _ (write-settles l c k value h .keeps) F

@@ -7,9 +7,9 @@ use mathlib.Core.List.{List}
 use mathlib.Core.Bool.{Bool, true, false}
 use lib.Dec.{eqb}
 use borrow.Author.Tests.{eqb-true, ne-eqb}
-use Rattle.order.specs.Loops.{pick}
-use Rattle.order.proofs.BoolLaws.{decided, pick-true, pick-false}
-use Rattle.paper.specs.Calls.{read, write, tick, take, refresh, Answer, refused, done, numberIn, answerBy}
+use Rattle.loops.specs.Loops.{pick}
+use Rattle.loops.proofs.BoolLaws.{decided, pick-true, pick-false}
+use Rattle.paper.specs.Calls.{read, write, tick, take, refresh, Answer, numberIn, answerBy}
 use Rattle.book.specs.declared.parts.Counts.{Counts}
 use Rattle.fit.specs.Fit.{fit}
 use Rattle.register.specs.declared.answer.Answer as register
@@ -20,8 +20,10 @@ use Rattle.upkeep.specs.Requests.{Request, setup, call, Reply, plain, fo
 use Rattle.upkeep.specs.Requests.{bookAfter, Called, set-up, did-read, did-write, ticked, took, refreshed, Lead, none, then}
 use Rattle.upkeep.specs.Paper.{paper, paperFound, paperRead, paperWrite, onPaper}
 use Rattle.upkeep.proofs.PaperLaws.{doneAnswer, reply-on-paper}
-use Rattle.upkeep.proofs.NeverBadBook.{request-fit, fit-number}
+use Rattle.upkeep.specs.Own.{Part, Fits}
 use Rattle.upkeep.proofs.FitSetup.{setup-fit}
+use Rattle.upkeep.proofs.FitOwn.{fit-parts, parts-fit, no-spread}
+use Rattle.upkeep.proofs.NeverBadBook.{fit-number}
 
 -- ---- a promise settles the reply and the book
 
@@ -81,12 +83,13 @@ reply-number D l r =
 
 -- ---- so no answer is BAD BOOK
 
-pub called-fit : {l m : List ℕ} {r : Request} {a : Reply} → Called l m r a → fit l ≡ true → fit m ≡ true
-called-fit {l} {m} {r} c F = subst (λ (v : List ℕ). fit v ≡ true) (sym (settled c .1)) (request-fit l F r)
+-- a part that is fit stays fit through whatever satisfies the promises, and so does a fit book
+pub lead-parts : {l v : List ℕ} → Lead l v → (p : Part) → Fits l p → Fits v p
+lead-parts none p F = F
+lead-parts (then {l} {m} {v} {r} c cs) p F = lead-parts cs p (subst (λ (w : List ℕ). Fits w p) (sym (settled c .1)) (no-spread l r p F))
 
 pub lead-fit : {l v : List ℕ} → Lead l v → fit l ≡ true → fit v ≡ true
-lead-fit none F = F
-lead-fit (then c cs) F = lead-fit cs (called-fit c F)
+lead-fit {l} {v} led F = parts-fit v λ p. lead-parts led p (fit-parts l F p)
 
 pub called-good : (D : ℕ) {l m : List ℕ} {r : Request} {a : Reply} → Called l m r a → fit l ≡ true → numberIn (onPaper D a) ≡ 1 → ⊥
 called-good D {l} {m} {r} c F e = fit-number l F r (sym (reply-number D l r) ∙ ap (λ (x : Reply). numberIn (onPaper D x)) (sym (settled c .0)) ∙ e)

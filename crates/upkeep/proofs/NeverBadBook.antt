@@ -1,50 +1,38 @@
--- From a setup that was done, whatever calls follow, done or refused, none is answered with BAD BOOK.
+-- BAD BOOK is the want of the parts that a request asks for. From a setup that was done, whatever calls follow, done or refused, none is answered with it.
 -- Assumes nothing.
 use Prim.Native.Nat.{ℕ}
 use native.Mathlib.Omega.{arith}
 use mathlib.Core.Path.{_≡_, ap}
 use mathlib.Core.List.{List, [], _∷_}
 use mathlib.Core.Bool.{Bool, true, false, not}
-use lib.Dec.{eqb}
 use lib.ListN.{length}
-use borrow.Author.Tests.{eqb-true, eq-eqb}
-use Rattle.order.specs.Loops.{pick}
+use borrow.Author.Tests.{eq-eqb}
+use Rattle.loops.specs.Loops.{pick}
+use Rattle.loops.proofs.BoolLaws.{pick-true}
 use Rattle.book.specs.declared.parts.Counts.{Counts}
 use Rattle.book.specs.Layout.{bookWords}
 use Rattle.fit.specs.Fit.{fit}
 use Rattle.fit.proofs.FitLaws.{fit-open}
-use Rattle.fit.proofs.NamedLaws.{fit-tick, fit-take, fit-refresh, fit-read, fit-write}
-use Rattle.shelf.proofs.FrameLaws.{pick-cases}
+use Rattle.named.proofs.NamedLaws.{fit-tick, fit-take, fit-refresh, fit-read, fit-write}
 use Rattle.paper.specs.Calls.{first, read, write, tick, take, refresh}
 use Rattle.register.specs.Table.{setupNumber, readNumber, writeNumber, tickNumber, takeNumber, refreshNumber}
 use Rattle.register.specs.Calls.{setUp}
-use Rattle.register.specs.Promises.{after}
-use Rattle.upkeep.specs.Requests.{Request, setup, call, numberAt, changedBy, bookAfter, last}
-use Rattle.upkeep.proofs.FitKept.{tick-fit, take-fit, refresh-fit, read-fit}
-use Rattle.upkeep.proofs.FitWrite.{write-fit}
+use Rattle.upkeep.specs.Requests.{Request, setup, call, numberAt, bookAfter, last}
+use Rattle.upkeep.specs.Own.{fitFor}
 use Rattle.upkeep.proofs.FitSetup.{setup-fit}
+use Rattle.upkeep.proofs.FitOwn.{fit-parts, parts-fit, no-spread, own-parts}
 
 -- ---- fitness is kept
 
-pub done-fit : (l : List ℕ) → fit l ≡ true → (r : Request) → numberAt l r ≡ 0 → fit (changedBy l r) ≡ true
-unfolding numberAt changedBy
-done-fit l F (setup n homes) h = setup-fit l n homes h
-done-fit l F (call (read c k)) h = read-fit l c k F h
-done-fit l F (call (write c k value)) h = write-fit l c k value F h
-done-fit l F (call (tick d s)) h = tick-fit l d s F h
-done-fit l F (call (take d s from)) h = take-fit l d s from F h
-done-fit l F (call (refresh d s)) h = refresh-fit l d s F h
-
 pub request-fit : (l : List ℕ) → fit l ≡ true → (r : Request) → fit (bookAfter l r) ≡ true
-unfolding bookAfter after
-request-fit l F r = pick-cases (λ (m : List ℕ). fit m ≡ true) (eqb (numberAt l r) 0) _ l (λ e. done-fit l F r (eqb-true (numberAt l r) 0 e)) λ e. F
+request-fit l F r = parts-fit (bookAfter l r) λ p. no-spread l r p (fit-parts l F p)
 
 pub last-fit : (l : List ℕ) → fit l ≡ true → (rs : List Request) → fit (last l rs) ≡ true
 unfolding last
 last-fit l F [] = F
 last-fit l F (r ∷ rs) = last-fit (bookAfter l r) (request-fit l F r) rs
 
--- ---- so no number is 1
+-- ---- the number 1
 
 -- the first check is passed, and no later one has the number 1
 first-other : (t : Bool) (rest : List (Bool × ℕ)) → t ≡ false → (first rest ≡ 1 → ⊥) → first ((t, 1) ∷ rest) ≡ 1 → ⊥
@@ -61,22 +49,49 @@ none-other : first [] ≡ 1 → ⊥
 unfolding first
 none-other h = omega arith
 
-pub fit-number : (l : List ℕ) → fit l ≡ true → (r : Request) → numberAt l r ≡ 1 → ⊥
-unfolding numberAt setupNumber readNumber writeNumber tickNumber takeNumber refreshNumber
-fit-number l h (setup n homes) =
-    first-other _ _ (ap not (eq-eqb (length l) bookWords (fit-open l h .full))) (later-other _ 11 _ (omega arith) (later-other _ 2 _ (omega arith) none-other))
-fit-number l h (call (read c k)) = first-other _ _ (ap not (fit-read l h c k)) (later-other _ 5 _ (omega arith) (later-other _ 4 _ (omega arith) none-other))
-fit-number l h (call (write c k value)) =
-    first-other _ _ (ap not (fit-write l h c k))
+-- a request whose parts are fit is not answered with BAD BOOK
+pub fits-number : (l : List ℕ) (r : Request) → fitFor l r ≡ true → numberAt l r ≡ 1 → ⊥
+unfolding fitFor numberAt setupNumber readNumber writeNumber tickNumber takeNumber refreshNumber
+fits-number l (setup n homes) h = first-other _ _ (ap not h) (later-other _ 11 _ (omega arith) (later-other _ 2 _ (omega arith) none-other))
+fits-number l (call (read c k)) h = first-other _ _ (ap not h) (later-other _ 5 _ (omega arith) (later-other _ 4 _ (omega arith) none-other))
+fits-number l (call (write c k value)) h =
+    first-other _ _ (ap not h)
     (later-other _ 5 _ (omega arith)
     (later-other _ 4 _ (omega arith) (later-other _ 8 _ (omega arith) (later-other _ 10 _ (omega arith) (later-other _ 9 _ (omega arith) none-other)))))
-fit-number l h (call (tick d s)) =
-    first-other _ _ (ap not (fit-tick l h d s))
+fits-number l (call (tick d s)) h =
+    first-other _ _ (ap not h)
     (later-other _ 2 _ (omega arith) (later-other _ 3 _ (omega arith) (later-other _ 10 _ (omega arith) (later-other _ 9 _ (omega arith) none-other))))
-fit-number l h (call (take d s from)) =
-    first-other _ _ (ap not (fit-take l h d s from))
+fits-number l (call (take d s from)) h =
+    first-other _ _ (ap not h)
     (later-other _ 2 _ (omega arith) (later-other _ 3 _ (omega arith) (later-other _ 6 _ (omega arith) (later-other _ 7 _ (omega arith) none-other))))
-fit-number l h (call (refresh d s)) = first-other _ _ (ap not (fit-refresh l h d s)) (later-other _ 2 _ (omega arith) (later-other _ 3 _ (omega arith) none-other))
+fits-number l (call (refresh d s)) h = first-other _ _ (ap not h) (later-other _ 2 _ (omega arith) (later-other _ 3 _ (omega arith) none-other))
+
+-- and one that wants a part is
+pub unfit-number : (l : List ℕ) (r : Request) → fitFor l r ≡ false → numberAt l r ≡ 1
+unfolding fitFor numberAt setupNumber readNumber writeNumber tickNumber takeNumber refreshNumber first
+unfit-number l (setup n homes) h = pick-true _ _ (ap not h)
+unfit-number l (call (read c k)) h = pick-true _ _ (ap not h)
+unfit-number l (call (write c k value)) h = pick-true _ _ (ap not h)
+unfit-number l (call (tick d s)) h = pick-true _ _ (ap not h)
+unfit-number l (call (take d s from)) h = pick-true _ _ (ap not h)
+unfit-number l (call (refresh d s)) h = pick-true _ _ (ap not h)
+
+-- so a request that was done may be asked again: its parts are fit
+pub own-again : (l : List ℕ) (r : Request) → numberAt l r ≡ 0 → numberAt (bookAfter l r) r ≡ 1 → ⊥
+own-again l r h = fits-number (bookAfter l r) r (own-parts l r h)
+
+-- a fit book has the parts of every request
+pub fit-for : (l : List ℕ) → fit l ≡ true → (r : Request) → fitFor l r ≡ true
+unfolding fitFor
+fit-for l h (setup n homes) = eq-eqb (length l) bookWords (fit-open l h .full)
+fit-for l h (call (read c k)) = fit-read l h c k
+fit-for l h (call (write c k value)) = fit-write l h c k
+fit-for l h (call (tick d s)) = fit-tick l h d s
+fit-for l h (call (take d s from)) = fit-take l h d s from
+fit-for l h (call (refresh d s)) = fit-refresh l h d s
+
+pub fit-number : (l : List ℕ) → fit l ≡ true → (r : Request) → numberAt l r ≡ 1 → ⊥
+fit-number l h r = fits-number l r (fit-for l h r)
 
 -- after a setup that was done and any requests, done or refused, later setups among them, none is answered with BAD BOOK
 pub never-bad-book :

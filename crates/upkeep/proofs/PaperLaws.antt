@@ -7,8 +7,8 @@ use mathlib.Core.Bool.{Bool, true, false}
 use mathlib.Core.List.{List, [], _∷_}
 use lib.Dec.{eqb}
 use borrow.Author.Tests.{eqb-false}
-use Rattle.order.specs.Loops.{pick}
-use Rattle.order.proofs.BoolLaws.{decided, pick-true, pick-false}
+use Rattle.loops.specs.Loops.{pick}
+use Rattle.loops.proofs.BoolLaws.{decided, pick-true, pick-false}
 use Rattle.paper.specs.Calls.{read, write, tick, take, refresh, Answer, refused, done, first, answerBy}
 use Rattle.book.specs.Layout.{countsOf}
 use Rattle.register.specs.declared.answer.Refusal.{Refusal}

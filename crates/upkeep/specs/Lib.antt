@@ -1,2 +1,4 @@
 pub mod Requests
 pub mod Paper
+pub mod Local
+pub mod Own

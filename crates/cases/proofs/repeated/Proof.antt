@@ -1,6 +1,6 @@
 -- `cases::repeated` is safe and ends. The measure: the turns left.
 -- Assumes nothing.
-use Prim.Native.Nat.{_≤_, _-_}
+use Prim.Native.Nat.{_-_}
 use native.Mathlib.Omega.{arith}
 use mathlib.Core.Path.{_≡_, refl, _∙_}
 use lib.ListN.{length}

@@ -1,10 +1,10 @@
 -- `export::depot_greater` meets its contract: no depots, too many, or the order of versions.
 -- Assumes nothing.
 use Prim.Native.Nat.{ℕ, _<_}
-use mathlib.Core.Path.{_≡_, sym, _∙_, ap, subst}
+use mathlib.Core.Path.{sym, _∙_, ap, subst}
 use denote.Ref.{now}
 use Rattle.order.specs.Record.{mostDepots}
-use Rattle.order.proofs.BoolLaws.{pick-true, pick-false}
+use Rattle.loops.proofs.BoolLaws.{pick-true, pick-false}
 use Rattle.export.specs.Numbers.{greaterNumber}
 use Rattle.export.proofs.GreaterLaws.{greater-none, greater-many, greater-by}
 use borrow.Author.Needs.{needs}

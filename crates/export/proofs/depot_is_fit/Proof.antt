@@ -1,7 +1,7 @@
 -- `export::depot_is_fit` meets its contract: 1 for fit, 0 for not.
 -- Assumes nothing.
 use mathlib.Core.Path.{sym, _∙_}
-use Rattle.order.proofs.BoolLaws.{pick-true, pick-false}
+use Rattle.loops.proofs.BoolLaws.{pick-true, pick-false}
 use borrow.Author.Needs.{needs}
 use Rattle.export.proofs.depot_is_fit.Statement.{statement}
 use Rattle.export.proofs.depot_is_fit.Tie as tie

@@ -3,7 +3,7 @@
 use native.Mathlib.Nat.{zero-add}
 use mathlib.Core.Path.{sym, _∙_}
 use borrow.Author.Tests.{le-leb, lt-leb}
-use Rattle.order.proofs.BoolLaws.{pick-true, pick-false}
+use Rattle.loops.proofs.BoolLaws.{pick-true, pick-false}
 use borrow.Author.Needs.{needs}
 use Rattle.export.proofs.depot_line.Statement.{statement}
 use Rattle.export.proofs.depot_line.Tie as tie

@@ -1,6 +1,6 @@
 -- `export::depot_write` meets its contract: the number, the book and what `out` holds are those of the promise.
 -- Assumes nothing.
-use mathlib.Core.Path.{_≡_, _∙_}
+use mathlib.Core.Path.{_∙_}
 use Rattle.export.proofs.OutLaws.{write-number, write-out}
 use borrow.Author.Needs.{needs}
 use Rattle.export.proofs.depot_write.Statement.{statement}

@@ -1,6 +1,6 @@
 -- `export::tell_written` meets its contract: each answer leaves its words and has its number.
 -- Assumes nothing.
-use mathlib.Core.Path.{_≡_, sym, _∙_, ap}
+use mathlib.Core.Path.{sym, _∙_, ap}
 use denote.Ref.{now}
 use Rattle.register.specs.declared.answer.WriteAnswer.{WriteAnswer}
 use Rattle.export.specs.Numbers.{writtenOut}

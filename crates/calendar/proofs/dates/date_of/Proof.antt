@@ -6,7 +6,7 @@ use mathlib.Core.Path.{_≡_, sym, _∙_, ap, ap₂}
 use mathlib.Core.List.{List}
 use lib.ListN.{getD}
 use borrow.Author.Needs.{needs}
-use Rattle.calendar.specs.Months.{start, Starts}
+use Rattle.months.specs.Months.{start, Starts}
 use Rattle.calendar.specs.Dates.{dateIn, monthOn, dateOf}
 use Rattle.calendar.specs.declared.answers.Date.{Date}
 use Rattle.calendar.specs.declared.answers.DateAnswer.the-variants.{On}

@@ -5,8 +5,8 @@ use native.Mathlib.Omega.{arith}
 use mathlib.Core.Path.{_≡_, sym, _∙_, ap}
 use mathlib.Core.Bool.{true}
 use borrow.Author.Needs.{needs}
-use Rattle.order.proofs.BoolLaws.{test-passed, test-failed}
-use Rattle.calendar.specs.Months.{start}
+use Rattle.loops.proofs.BoolLaws.{test-passed, test-failed}
+use Rattle.months.specs.Months.{start}
 use Rattle.calendar.specs.Dates.{isDate, monthIndex, dayNumber}
 use Rattle.calendar.specs.declared.answers.DateAnswer.the-variants.{On}
 use Rattle.calendar.proofs.DateLaws.{date-real, index-days, index-small, end-small}

@@ -4,8 +4,8 @@ use Prim.Native.Nat.{suc, _+_, _-_, _/_, _≤_, _<_}
 use native.Mathlib.Omega.{arith}
 use mathlib.Core.Path.{_≡_, sym, ap}
 use borrow.Author.Needs.{needs}
-use Rattle.calendar.specs.Months.{start}
-use Rattle.calendar.proofs.StartLaws.{start-none, year-2400-start, start-suc}
+use Rattle.months.specs.Months.{start}
+use Rattle.months.proofs.StartLaws.{start-none, year-2400-start, start-suc}
 use Rattle.calendar.proofs.DateLaws.{month-on-is}
 use Rattle.calendar.proofs.dates.month_on.Statement.{statement}
 use Rattle.calendar.proofs.dates.month_on.Tie as tie

@@ -5,7 +5,7 @@ use native.Mathlib.Nat.{mul-le-mul-right}
 use native.Mathlib.Omega.{arith}
 use mathlib.Core.Path.{sym, _∙_, ap}
 use borrow.Author.Needs.{needs}
-use Rattle.order.proofs.BoolLaws.{test-passed, test-failed}
+use Rattle.loops.proofs.BoolLaws.{test-passed, test-failed}
 use Rattle.calendar.specs.Dates.{dateIn}
 use Rattle.calendar.specs.Next.{dayWithin, numbered, nextDate}
 use Rattle.calendar.proofs.DateLaws.{date-real}

@@ -4,11 +4,11 @@ use Prim.Native.Nat.{ℕ, _+_, _-_, _≤_, _<_, min}
 use native.Mathlib.Omega.{arith}
 use mathlib.Core.Path.{_≡_, sym, _∙_, ap, ap₂}
 use borrow.Author.Needs.{needs}
-use Rattle.calendar.specs.Months.{daysIn, daysOf, yearOf, monthOf, start}
+use Rattle.months.specs.Months.{daysIn, daysOf, yearOf, monthOf, start}
 use Rattle.calendar.specs.Dates.{dateIn}
 use Rattle.calendar.specs.Next.{dayWithin, numbered}
 use Rattle.calendar.specs.declared.answers.DateAnswer.the-variants.{On}
-use Rattle.calendar.proofs.MonthLaws.{days-of-bounds}
+use Rattle.months.proofs.MonthLaws.{days-of-bounds}
 use Rattle.calendar.proofs.DateLaws.{end-small, number-in}
 use Rattle.calendar.proofs.AnswerLaws.{start-uncut}
 use Rattle.calendar.proofs.dates.within.Statement.{statement}

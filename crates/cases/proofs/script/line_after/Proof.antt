@@ -1,6 +1,6 @@
 -- `cases::script::line_after` meets its contract. The loop's invariant: the place is not before the start, and not past the end of a text that the start is in.
 -- Assumes nothing.
-use Prim.Native.Nat.{_≤_, _<_, _-_}
+use Prim.Native.Nat.{_≤_, _-_}
 use native.Mathlib.Omega.{arith}
 use lib.ListN.{length}
 use borrow.Author.Needs.{needs}

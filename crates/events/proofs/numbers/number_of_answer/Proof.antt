@@ -1,6 +1,6 @@
 -- `events::numbers::number_of_answer` meets its contract: the number of a refusal is that of its reason.
 -- Assumes nothing.
-use mathlib.Core.Path.{_≡_, sym, _∙_, ap}
+use mathlib.Core.Path.{sym, _∙_, ap}
 use borrow.Author.Needs.{needs}
 use Rattle.paper.specs.Calls.{numberIn}
 use Rattle.register.specs.declared.answer.Answer.{Answer}

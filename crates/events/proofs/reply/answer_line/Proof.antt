@@ -3,7 +3,6 @@
 use native.Mathlib.Omega.{arith}
 use denote.Ref.{now}
 use Rattle.line.specs.Reading.{reading}
-use mathlib.Core.Path.{_≡_, ap}
 use Rattle.line.proofs.PrintLaws.{wrote-byte, wrote-then, wrote-length}
 use Rattle.events.specs.Answering.{bookAfter, answerTo}
 use Rattle.events.proofs.SayLaws.{reading-length}

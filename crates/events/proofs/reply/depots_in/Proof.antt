@@ -1,9 +1,9 @@
 -- `events::reply::depots_in` meets its contract: such a book has at most four depots.
 -- Assumes nothing.
 use native.Mathlib.Omega.{arith}
-use mathlib.Core.Path.{_≡_, ap}
+use mathlib.Core.Path.{ap}
 use Rattle.book.specs.declared.parts.Counts.{Counts}
-use Rattle.fit.proofs.NamedLaws.{base-open}
+use Rattle.named.proofs.NamedLaws.{base-open}
 use borrow.Author.Needs.{needs}
 use Rattle.events.proofs.reply.depots_in.Statement.{statement}
 use Rattle.events.proofs.reply.depots_in.Tie as tie

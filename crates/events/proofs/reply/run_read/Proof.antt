@@ -2,7 +2,7 @@
 -- Assumes nothing.
 use Rattle.upkeep.specs.Requests.{numberAt, changedBy, bookAfter}
 use Rattle.line.proofs.PrintLaws.{wrote-same}
-use Rattle.fit.proofs.NamedLaws.{read-based}
+use Rattle.named.proofs.NamedLaws.{read-based}
 use Rattle.register.proofs.Numbers.{read-done}
 use Rattle.events.specs.Answering.{requestOf, eventBook, eventSays}
 use Rattle.events.proofs.SayLaws.{found-says}

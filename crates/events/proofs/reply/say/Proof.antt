@@ -1,7 +1,7 @@
 -- `events::reply::say` meets its contract: the reader says which event, and with which numbers.
 -- Assumes nothing.
 use native.Mathlib.Omega.{arith}
-use mathlib.Core.Path.{_≡_, refl}
+use mathlib.Core.Path.{refl}
 use Rattle.events.specs.Answering.{readingBook, readingSays}
 use Rattle.line.proofs.Theorems.{says-read}
 use Rattle.events.proofs.SayLaws.{number-room, told-bad, told-event, told-count, told-room, told-part, answered-reading}

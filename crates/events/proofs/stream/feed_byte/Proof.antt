@@ -1,8 +1,7 @@
 -- `events::stream::feed_byte` meets its contract: a line feed answers the line so far, any other byte grows it while there is room.
 -- Assumes nothing.
-use mathlib.Core.Path.{sym, _∙_, refl}
+use mathlib.Core.Path.{sym, _∙_}
 use denote.Ref.{now}
-use lib.ListN.{length, take}
 use lib.Seq.{length-take-le}
 use native.Mathlib.Omega.{arith}
 use Rattle.line.proofs.PrintLaws.{wrote-same, wrote-nothing}

@@ -1,7 +1,7 @@
 -- `export::dates::depot_is_date` meets its contract: 1 for a date, 0 for none.
 -- Assumes nothing.
 use mathlib.Core.Path.{sym, _∙_}
-use Rattle.order.proofs.BoolLaws.{pick-true, pick-false}
+use Rattle.loops.proofs.BoolLaws.{pick-true, pick-false}
 use borrow.Author.Needs.{needs}
 use Rattle.export.proofs.dates.depot_is_date.Statement.{statement}
 use Rattle.export.proofs.dates.depot_is_date.Tie as tie

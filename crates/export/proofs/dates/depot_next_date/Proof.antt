@@ -1,6 +1,6 @@
 -- `export::dates::depot_next_date` meets its contract: the number of the refusal, or 0, the date and its day number.
 -- Assumes nothing.
-use mathlib.Core.Path.{_≡_, sym, _∙_, ap}
+use mathlib.Core.Path.{sym, _∙_, ap}
 use denote.Ref.{now}
 use Rattle.calendar.specs.declared.answers.DateAnswer.{DateAnswer}
 use Rattle.export.specs.Dates.{dateNumber, nextOut}

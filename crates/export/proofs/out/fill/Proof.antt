@@ -1,8 +1,8 @@
 -- `export::out::fill` meets its contract: the words fit, or nothing is written.
 -- Assumes nothing.
-use mathlib.Core.Path.{_≡_, sym, _∙_}
+use mathlib.Core.Path.{sym, _∙_}
 use borrow.Author.Tests.{le-leb, lt-leb}
-use Rattle.order.proofs.BoolLaws.{pick-true, pick-false}
+use Rattle.loops.proofs.BoolLaws.{pick-true, pick-false}
 use Rattle.book.specs.Words.{put}
 use Rattle.export.specs.Numbers.{filled}
 use borrow.Author.Needs.{needs}

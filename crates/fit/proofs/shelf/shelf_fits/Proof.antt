@@ -1,7 +1,7 @@
 -- `fit::shelf::shelf_fits` meets its contract: the three tests, in their order.
 -- Assumes nothing.
 use mathlib.Core.Path.{_∙_, sym}
-use Rattle.order.proofs.BoolLaws.{and-next, and-stop, test-passed, test-failed}
+use Rattle.loops.proofs.BoolLaws.{and-next, and-stop, test-passed, test-failed}
 use Rattle.fit.specs.Fit.{shelfFit}
 use borrow.Author.Needs.{needs}
 use Rattle.fit.proofs.shelf.shelf_fits.Statement.{statement}

@@ -3,7 +3,7 @@
 use mathlib.Core.Path.{_∙_, sym}
 use denote.Ref.{now}
 use borrow.Author.Tests.{eq-eqb, ne-eqb}
-use Rattle.order.proofs.BoolLaws.{and-next, and-stop}
+use Rattle.loops.proofs.BoolLaws.{and-next, and-stop}
 use Rattle.fit.specs.Fit.{stableFit}
 use Rattle.fit.proofs.RangeLaws.{range-lent}
 use borrow.Author.Needs.{needs}

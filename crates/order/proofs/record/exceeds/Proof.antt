@@ -1,11 +1,11 @@
 -- `order::record::exceeds` meets its contract: a record of the wrong length is unwritten, so it is above nothing and below whatever is written.
 -- Assumes nothing.
-use mathlib.Core.Path.{_≡_, _∙_, sym, ap, ap₂}
+use mathlib.Core.Path.{_∙_, sym, ap, ap₂}
 use mathlib.Core.Bool.{not}
 use denote.Ref.{now}
 use borrow.Author.Needs.{needs}
 use Rattle.order.specs.Order.{Rank, above}
-use Rattle.order.specs.Record.{rankOf, rankIn}
+use Rattle.order.specs.Record.{rankIn}
 use Rattle.order.specs.Vector.{zeros}
 use Rattle.order.proofs.OrderLaws.{above-unwritten, above-nothing}
 use Rattle.order.proofs.RecordLaws.{rank-right, zeros-wrong, zeros-part}

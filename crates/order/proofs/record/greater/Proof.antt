@@ -6,7 +6,7 @@ use denote.Ref.{now}
 use borrow.Author.Needs.{needs}
 use Rattle.order.specs.Order.{above}
 use Rattle.order.specs.Record.{rankIn}
-use Rattle.order.proofs.BoolLaws.{pick-true, pick-false}
+use Rattle.loops.proofs.BoolLaws.{pick-true, pick-false}
 use Rattle.order.proofs.record.greater.Statement.{statement}
 use Rattle.order.proofs.record.greater.Tie as tie
 

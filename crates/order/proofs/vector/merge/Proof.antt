@@ -2,12 +2,11 @@
 -- Assumes nothing.
 use Prim.Native.Nat.{_≤_, _-_}
 use native.Mathlib.Nat.{le-antisymm}
-use native.Mathlib.Omega.{arith}
-use mathlib.Core.Path.{_≡_, _∙_, refl, ap}
+use mathlib.Core.Path.{_≡_, _∙_, refl}
 use lib.ListN.{length}
 use borrow.Author.Needs.{needs}
 use Rattle.order.specs.Vector.{vectorIn, mergedAt}
-use Rattle.order.proofs.LoopLaws.{times-none, times-more}
+use Rattle.loops.proofs.LoopLaws.{times-none, times-more}
 use Rattle.order.proofs.vector.merge.Statement.{statement}
 use Rattle.order.proofs.vector.merge.Tie as tie
 

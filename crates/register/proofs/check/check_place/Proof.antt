@@ -4,14 +4,12 @@ use Prim.Native.Nat.{ℕ, _≤_, _<_}
 use mathlib.Core.Path.{_≡_, _∙_, sym, ap, subst}
 use mathlib.Core.Bool.{true}
 use denote.Ref.{now}
-use Rattle.order.specs.Loops.{pick}
-use Rattle.order.proofs.BoolLaws.{test-passed, test-failed}
+use Rattle.loops.specs.Loops.{pick}
+use Rattle.loops.proofs.BoolLaws.{test-passed, test-failed}
 use Rattle.book.specs.declared.parts.Counts.{Counts}
 use Rattle.book.specs.Layout.{countsOf}
-use Rattle.book.specs.declared.numbers.Depot.{Depot}
-use Rattle.book.specs.declared.numbers.Shelf.{Shelf}
-use Rattle.fit.specs.Named.{baseFit}
-use Rattle.fit.proofs.NamedLaws.{base-open}
+use Rattle.named.specs.Named.{baseFit}
+use Rattle.named.proofs.NamedLaws.{base-open}
 use Rattle.register.specs.declared.check.PlaceCheck.{PlaceCheck}
 use Rattle.register.specs.Answers.{refusalOf, numbered, numberOf}
 use Rattle.register.specs.Checks.{placeOfNumber}

@@ -1,7 +1,6 @@
 -- `shelf::link::close_up` meets its contract: the messages behind move down, then the free slots are cleared.
 -- Assumes nothing.
 use mathlib.Core.Logic.{inl}
-use mathlib.Core.Path.{_∙_}
 use Rattle.shelf.proofs.ShelfCode.{close-done}
 use borrow.Author.Needs.{needs}
 use Rattle.shelf.proofs.link.close_up.Statement.{statement}

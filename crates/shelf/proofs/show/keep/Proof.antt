@@ -1,7 +1,6 @@
 -- `shelf::show::keep` meets its contract: the comparison, and the copy where it is greater.
 -- Assumes nothing.
 use mathlib.Core.Logic.{inr}
-use mathlib.Core.Path.{_≡_, refl}
 use Rattle.shelf.proofs.ShelfCode.{compare-lent, keep-greater, keep-stays}
 use borrow.Author.Needs.{needs}
 use Rattle.shelf.proofs.show.keep.Statement.{statement}

@@ -1,9 +1,7 @@
 -- `shelf::show::settle` meets its contract: raise, then show; raising leaves the links as they are.
 -- Assumes nothing.
-use native.Mathlib.Omega.{arith}
 use Prim.Native.Nat.{ℕ}
 use mathlib.Core.Path.{_≡_, _∙_, sym, ap, ap₂, subst}
-use mathlib.Core.List.{List}
 use denote.Ref.{now}
 use Rattle.order.specs.Vector.{vectorIn, mergedAt}
 use Rattle.book.specs.Layout.{stableAt}

@@ -1,14 +1,12 @@
 -- `shelf::show::show` meets its contract. The loop's invariant: the words are those of the turns so far; a link whose turn comes is sound as it was.
 -- Assumes nothing.
-use Prim.Native.Nat.{ℕ, _≤_, _<_, _-_}
+use Prim.Native.Nat.{ℕ, _≤_, _-_}
 use native.Mathlib.Nat.{le-antisymm}
 use native.Mathlib.Omega.{arith}
 use mathlib.Core.Path.{_≡_, _∙_, refl, sym, ap, subst}
-use mathlib.Core.List.{List}
 use lib.ListN.{length}
-use denote.Ref.{now}
-use Rattle.order.specs.Loops.{times}
-use Rattle.order.proofs.LoopLaws.{times-none, times-more}
+use Rattle.loops.specs.Loops.{times}
+use Rattle.loops.proofs.LoopLaws.{times-none, times-more}
 use Rattle.book.specs.Layout.{linkOf}
 use Rattle.shelf.specs.Asks.{Sound}
 use Rattle.shelf.specs.Show.{shown}

@@ -2,7 +2,7 @@
 -- Assumes nothing.
 use mathlib.Core.Path.{_∙_, sym}
 use borrow.Author.Tests.{eq-eqb, ne-eqb}
-use Rattle.order.proofs.BoolLaws.{pick-true, pick-false}
+use Rattle.loops.proofs.BoolLaws.{pick-true, pick-false}
 use borrow.Author.Needs.{needs}
 use Rattle.shelf.proofs.show.show_from.Statement.{statement}
 use Rattle.shelf.proofs.show.show_from.Tie as tie

@@ -1,0 +1,4 @@
+pub mod SendFrame
+pub mod SentLaws
+pub mod TookLaws
+mod SendCode

@@ -1,0 +1,2 @@
+pub mod BoolLaws
+pub mod LoopLaws

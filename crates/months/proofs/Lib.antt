@@ -1,0 +1,4 @@
+pub mod StartTable
+pub mod TableRule
+pub mod MonthLaws
+pub mod StartLaws

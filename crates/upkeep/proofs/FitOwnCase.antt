@@ -1,0 +1,37 @@
+-- A book that is not fit, on which calls are done: the parts that want fitness are other ones.
+-- Assumes nothing.
+use Prim.Native.Nat.{ℕ}
+use mathlib.Core.Path.{_≡_, refl}
+use mathlib.Core.List.{List, _∷_, _++_}
+use mathlib.Core.Bool.{false}
+use lib.ListN.{replicate}
+use Rattle.loops.specs.Loops.{every, pick}
+use Rattle.order.specs.Vector.{covered, zeros}
+use Rattle.paper.specs.Calls.{first, read, write, tick, refresh}
+use Rattle.book.specs.Words.{part}
+use Rattle.book.specs.Layout.{countsOf}
+use Rattle.fit.specs.Fit.{between, inRange, othersInRange, countsFit, homeFit, crewFit, clockFit, stableFit, seenFit, versionFit, headFit, messagesFit}
+use Rattle.fit.specs.Fit.{linkFit, keptFit, storedFit, homesFit}
+use Rattle.named.specs.Named.{headsOutFit, placesFit, arrivalFit, showFit, tickParts, refreshParts, homeParts, readParts, writeParts}
+use Rattle.named.specs.Named.{baseFit, tickFit, refreshFit, readFit, writeFit}
+use Rattle.links.specs.Send.{roomy}
+use Rattle.register.specs.Table.{readNumber, writeNumber, tickNumber, refreshNumber}
+use Rattle.upkeep.specs.Requests.{call, numberAt}
+use Rattle.upkeep.specs.Own.{aClock, fitPart}
+
+-- the book of document 01's setup line, `S 2 2 4 2 0 1`, but for the clock of shelf 1 of depot 1, which is past the end
+pub torn : List ℕ
+torn = (2 ∷ 2 ∷ 4 ∷ 2 ∷ 0 ∷ 1 ∷ replicate 83 0) ++ (4294967295 ∷ replicate 16294 0)
+
+pub torn-unfit : fitPart (countsOf torn) torn (aClock 1 1) ≡ false
+unfolding torn fitPart clockFit
+torn-unfit = refl
+
+-- a tick and a write there, which read and write that clock, are refused; other calls are done, a read and a refresh there among them
+pub torn-numbers :
+    (numberAt torn (call (tick 1 1)) ≡ 1) × (numberAt torn (call (write 1 1 7)) ≡ 1) × (numberAt torn (call (tick 0 0)) ≡ 0)
+    × (numberAt torn (call (read 1 1)) ≡ 0) × (numberAt torn (call (write 1 0 7)) ≡ 0) × (numberAt torn (call (refresh 1 1)) ≡ 0)
+unfolding torn between inRange othersInRange countsFit homeFit crewFit clockFit stableFit seenFit versionFit headFit messagesFit linkFit keptFit storedFit
+    homesFit headsOutFit placesFit arrivalFit showFit tickParts refreshParts homeParts readParts writeParts baseFit tickFit refreshFit readFit writeFit
+    roomy readNumber writeNumber tickNumber refreshNumber numberAt first pick every covered zeros part
+torn-numbers = (refl, refl, refl, refl, refl, refl)

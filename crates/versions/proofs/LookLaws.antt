@@ -1,0 +1,108 @@
+-- One look over the entries is enough: the highest entry tells whether all are in range and whether all are 0, and the stamp whether the
+-- origin is a depot with an entry above 0.
+-- Assumes nothing.
+use Prim.Native.Nat.{ℕ, zero, suc, _+_, _%_, _≤_, _<_, max}
+use native.Mathlib.Nat.{le-trans, le-refl, le-step, le-max-left, le-max-right, max-le}
+use native.Mathlib.Omega.{arith}
+use mathlib.Core.Path.{_≡_, refl, sym, _∙_, ap, ap₂}
+use mathlib.Core.Logic.{_⊎_, inl, inr, ⊎-elim}
+use mathlib.Core.List.{List}
+use mathlib.Core.Bool.{Bool, true, false, _&&_, _||_}
+use lib.Dec.{leb, ltb, eqb}
+use borrow.Author.Tests.{leb-true, le-leb, lt-ltb, le-ltb, eqb-true, eq-eqb, ne-eqb}
+use Rattle.loops.specs.Loops.{times, pick}
+use Rattle.order.specs.Vector.{Vec, zeros}
+use Rattle.order.specs.Record.{bearingOf, originOf, vectorOf}
+use Rattle.loops.proofs.BoolLaws.{together, le-or-lt, eq-or-ne, pick-true, pick-false}
+use Rattle.loops.proofs.LoopLaws.{times-none, times-more, every-at, every-intro}
+use Rattle.order.proofs.VectorLaws.{zeros-at, zeros-intro}
+use Rattle.book.specs.declared.parts.Counts.{Counts}
+use Rattle.book.specs.Layout.{end}
+use Rattle.fit.specs.Fit.{inRange, versionFit, carriedFit, keptFit}
+use Rattle.versions.specs.Look.{highest, entryOf}
+
+-- a number that is not 0
+pub positive : (n : ℕ) → (n ≡ 0 → ⊥) → 0 < n
+positive n h = omega arith
+
+-- ---- turn by turn
+
+pub highest-none : (v : Vec) → 0 ≡ highest 0 v
+unfolding highest
+highest-none v = times-none _ _
+
+pub highest-more : (x : ℕ) (v : Vec) {m t : ℕ} → m ≡ highest x v → t ≡ max m (v x) → t ≡ highest (x + 1) v
+unfolding highest
+highest-more x v p q = times-more x _ _ p q
+
+pub entry-none : (o : ℕ) (v : Vec) → 0 ≡ entryOf 0 o v
+unfolding entryOf
+entry-none o v = sym (pick-false _ _ (le-ltb o 0 (omega arith)))
+
+pub entry-more : (x o : ℕ) (v : Vec) {m t : ℕ} → m ≡ entryOf x o v → t ≡ pick (eqb x o) (v x) m → t ≡ entryOf (x + 1) o v
+unfolding entryOf
+entry-more x o v {m} {t} p q = go (eq-or-ne x o) (le-or-lt x o)
+  where
+    go : (x ≡ o) ⊎ (x ≡ o → ⊥) → (x ≤ o) ⊎ (o < x) → t ≡ pick (ltb o (x + 1)) (v o) 0
+    go (inl e) s = q ∙ pick-true _ _ (eq-eqb x o e) ∙ ap v e ∙ sym (pick-true _ _ (lt-ltb o (x + 1) (omega arith)))
+    go (inr n) (inl s) = q ∙ pick-false _ _ (ne-eqb x o n) ∙ p ∙ pick-false _ _ (le-ltb o x s) ∙ sym (pick-false _ _ (le-ltb o (x + 1) (omega arith)))
+    go (inr n) (inr s) = q ∙ pick-false _ _ (ne-eqb x o n) ∙ p ∙ pick-true _ _ (lt-ltb o x s) ∙ sym (pick-true _ _ (lt-ltb o (x + 1) (omega arith)))
+
+-- ---- what the highest entry tells
+
+highest-at : (n : ℕ) (v : Vec) (x : ℕ) → x < n → v x ≤ highest n v
+unfolding highest times
+highest-at zero v x h = absurd (omega arith)
+highest-at (suc n) v x h =
+    ⊎-elim
+    (λ (e : x ≡ n). rw e (le-max-right (highest n v) (v n)))
+    (λ (e : x ≡ n → ⊥). le-trans (highest-at n v x (omega arith)) (le-max-left (highest n v) (v n)))
+    (eq-or-ne x n)
+
+highest-under : (n : ℕ) (v : Vec) (b : ℕ) → ((x : ℕ) → x < n → v x ≤ b) → highest n v ≤ b
+unfolding highest times
+highest-under zero v b h = omega arith
+highest-under (suc n) v b h = max-le (highest-under n v b (λ x l. h x (le-step l))) (h n (le-refl _))
+
+pub highest-range : (n : ℕ) (v : Vec) → inRange n v ≡ leb (highest n v) end
+unfolding inRange
+highest-range n v =
+    together _ _
+    (λ p. le-leb _ _ (highest-under n v end (λ x l. leb-true _ _ (every-at n _ p x l))))
+    (λ p. every-intro n _ (λ x l. le-leb _ _ (le-trans (highest-at n v x l) (leb-true _ _ p))))
+
+pub highest-zero : (n : ℕ) (v : Vec) → zeros n v ≡ eqb (highest n v) 0
+highest-zero n v =
+    together _ _
+    (λ p. eq-eqb (highest n v) 0 (let k = highest-under n v 0 (λ x l. let z = zeros-at n v p x l in omega arith) in omega arith))
+    (λ p. zeros-intro n v (λ x l. let k = highest-at n v x l in let z = eqb-true (highest n v) 0 p in omega arith))
+
+-- ---- and the stamp
+
+stamp-looked : (n o : ℕ) (v : Vec) → ltb o n && ltb 0 (v o) ≡ ltb 0 (entryOf n o v)
+unfolding entryOf pick
+stamp-looked n o v = go (ltb o n)
+  where
+    go : (b : Bool) → b && ltb 0 (v o) ≡ ltb 0 (pick b (v o) 0)
+    go true = refl
+    go false = refl
+
+version-looked : (n : Counts) (r : List ℕ) {h e : ℕ} → h ≡ highest (n .depots) (vectorOf r) → e ≡ entryOf (n .depots) (originOf r) (vectorOf r) → versionFit n r ≡ leb h end && ltb 0 e
+unfolding versionFit
+version-looked n r p q =
+    ap₂ (λ (a b : Bool). a && b)
+    (highest-range (n .depots) (vectorOf r) ∙ ap (λ (m : ℕ). leb m end) (sym p))
+    (stamp-looked (n .depots) (originOf r) (vectorOf r) ∙ ap (ltb 0) (sym q))
+
+pub carried-looked :
+    (n : Counts) (s from : ℕ) (r : List ℕ) {h o e b : ℕ} → h ≡ highest (n .depots) (vectorOf r) → o ≡ originOf r →
+    e ≡ entryOf (n .depots) (originOf r) (vectorOf r) → b ≡ bearingOf r →
+    carriedFit n s from r ≡ leb h end && ltb 0 e && (eqb o from && (ltb b (n .bearings) && eqb (b % n .shelves) s))
+unfolding carriedFit
+carried-looked n s from r p o q b = rw (version-looked n r p q, o, b)
+
+pub kept-looked :
+    (n : Counts) (k : ℕ) (r : List ℕ) {h e b : ℕ} → h ≡ highest (n .depots) (vectorOf r) → e ≡ entryOf (n .depots) (originOf r) (vectorOf r) → b ≡ bearingOf r →
+    keptFit n k r ≡ eqb h 0 || (leb h end && ltb 0 e && eqb b k)
+unfolding keptFit
+kept-looked n k r p q b = rw (highest-zero (n .depots) (vectorOf r), ← p, version-looked n r p q, b)

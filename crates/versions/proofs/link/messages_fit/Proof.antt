@@ -1,0 +1,19 @@
+-- `versions::link::messages_fit` meets its contract: the taken messages, then those that wait.
+-- Assumes nothing.
+use mathlib.Core.Path.{_∙_, sym}
+use Rattle.loops.proofs.BoolLaws.{and-next, and-stop, test-passed, test-failed}
+use Rattle.fit.specs.Fit.{messagesFit}
+use borrow.Author.Needs.{needs}
+use Rattle.versions.proofs.link.messages_fit.Statement.{statement}
+use Rattle.versions.proofs.link.messages_fit.Tie as tie
+
+returns : tie.Need-returns
+unfolding messagesFit
+returns c = sym (and-stop _ (test-failed (c .before .copies-fit .ensures) (c .if1 .taken)))
+
+returns-2 : tie.Need-returns-2
+unfolding messagesFit
+returns-2 c = let at1 = c .before in c .waiting-fit .ensures ∙ sym (and-next _ (test-passed (at1 .before .copies-fit .ensures) (at1 .if1 .left)))
+
+pub messages-fit-spec : {M : Type 1} → statement M
+messages-fit-spec = tie.close (tie.spec (λ c κs. search needs) returns (λ c. search needs) (λ c κs. search needs) returns-2)

@@ -1,0 +1,120 @@
+// Versions: stored, and carried by a link.
+use book::layout::END;
+use book::layout::stored_at;
+use book::numbers::Bearing;
+use book::numbers::Depot;
+use book::numbers::Shelf;
+use book::parts::Counts;
+use book::parts::wide;
+use order::record::BEARING;
+use order::record::ORIGIN;
+use order::record::RECORD_WORDS;
+use order::record::VECTOR;
+ghost use mathlib.Core.Path.{_≡_};
+ghost use Prim.Native.Nat.{_≤_, _<_, max};
+ghost use lib.Dec.{eqb};
+ghost use lib.ListN.{length};
+ghost use Rattle.loops.specs.Loops.{pick};
+ghost use Rattle.order.specs.Record.{mostDepots, recordWords, originOf, vectorOf};
+ghost use Rattle.book.specs.Layout.{bookWords, bearingRoom};
+ghost use Rattle.fit.specs.Fit.{carriedFit, keptFit, storedFit};
+ghost use Rattle.versions.specs.Look.{highest, entryOf};
+
+// What one look over a record's entries finds: the highest entry, the origin, and the stamp, which is the origin's entry, or 0 where the
+// origin is no depot.
+struct Found {
+    highest: u32,
+    origin: usize,
+    stamp: u32,
+}
+
+fn larger(a: u32, b: u32) -> u32
+    ensures { λ r. ⌜ r ≡ max a b ⌝ }
+{
+    if a < b {
+        return b;
+    }
+    a
+}
+
+// The entry, where its depot is the one looked for.
+fn entry_if(x: usize, o: usize, entry: u32, other: u32) -> u32
+    ensures { λ r. ⌜ r ≡ pick (eqb x o) entry other ⌝ }
+{
+    if x == o {
+        return entry;
+    }
+    other
+}
+
+fn look(version: &[u32], n: usize) -> Found
+    requires { ⌜ (length (now version) ≡ recordWords) × (n ≤ mostDepots) ⌝ }
+    ensures { λ r. ⌜ (r .highest ≡ highest n (vectorOf (now (version .entry)))) × (r .origin ≡ originOf (now (version .entry)))
+        × (r .stamp ≡ entryOf n (originOf (now (version .entry))) (vectorOf (now (version .entry)))) ⌝ }
+{
+    let origin = wide(version[ORIGIN]);
+    let mut top: u32 = 0;
+    let mut stamp: u32 = 0;
+    let mut x = 0;
+    while x < n {
+        let entry = version[VECTOR + x];
+        top = larger(top, entry);
+        stamp = entry_if(x, origin, entry, stamp);
+        x += 1;
+    }
+    Found {
+        highest: top,
+        origin: origin,
+        stamp: stamp,
+    }
+}
+
+// Whether a record may be carried by the link of a shelf out of a depot.
+pub fn carried_fits(version: &[u32], n: Counts, s: Shelf, from: Depot) -> bool
+    requires { ⌜ (length (now version) ≡ recordWords) × (n .depots ≤ mostDepots) × (0 < n .shelves) ⌝ }
+    ensures { λ r. ⌜ r ≡ carriedFit n (s .0) (from .0) (now (version .entry)) ⌝ }
+{
+    let found = look(version, n.depots);
+    if END < found.highest {
+        return false;
+    }
+    if found.stamp == 0 {
+        return false;
+    }
+    if found.origin != from.index() {
+        return false;
+    }
+    let bearing = wide(version[BEARING]);
+    if n.bearings <= bearing {
+        return false;
+    }
+    bearing % n.shelves == s.index()
+}
+
+// Whether a record may be stored for a bearing.
+fn kept_fits(version: &[u32], n: Counts, k: Bearing) -> bool
+    requires { ⌜ (length (now version) ≡ recordWords) × (n .depots ≤ mostDepots) ⌝ }
+    ensures { λ r. ⌜ r ≡ keptFit n (k .0) (now (version .entry)) ⌝ }
+{
+    let found = look(version, n.depots);
+    if found.highest == 0 {
+        return true;
+    }
+    if END < found.highest {
+        return false;
+    }
+    if found.stamp == 0 {
+        return false;
+    }
+    wide(version[BEARING]) == k.index()
+}
+
+// Whether the stored version of a bearing at a depot is fit.
+pub fn stored_fits(book: &[u32], n: Counts, d: Depot, k: Bearing) -> bool
+    requires { ⌜ (length (now book) ≡ bookWords) × (n .depots ≤ mostDepots) × (d .0 < mostDepots) × (k .0 < bearingRoom) ⌝ }
+    ensures { λ r. ⌜ r ≡ storedFit n (now (book .entry)) (d .0) (k .0) ⌝ }
+{
+    let at = stored_at(d, k);
+    let end = at + RECORD_WORDS;
+    kept_fits(&book[at..end], n, k)
+}

@@ -1,0 +1,60 @@
+-- `fit::whole::crews_fit` meets its contract. The loop's invariant: what was passed is fit.
+-- Assumes nothing.
+use Prim.Native.Nat.{ℕ, _≤_, _-_}
+use native.Mathlib.Nat.{le-antisymm}
+use mathlib.Core.Path.{_≡_, _∙_, refl, sym, ap}
+use mathlib.Core.Bool.{true}
+use denote.Ref.{now}
+use Rattle.loops.specs.Loops.{every}
+use Rattle.loops.proofs.BoolLaws.{test-passed, test-failed}
+use Rattle.loops.proofs.LoopLaws.{every-none, every-more, every-stop}
+use Rattle.fit.specs.Fit.{crewFit, crewsFit}
+use borrow.Author.Needs.{needs}
+use Rattle.whole.proofs.crews_fit.Statement.{statement}
+use Rattle.whole.proofs.crews_fit.Tie as tie
+
+abbrev Inv-loop : tie.InvT-loop
+Inv-loop book n count i₀ i = (i ≤ count) × (every i (λ x. crewFit n book x) ≡ true) × (count ≡ n .crews)
+
+abbrev μ-loop : tie.MeasureT-loop
+μ-loop book n count i₀ i = count - i
+
+loop-holds : tie.Need-loop-holds Inv-loop μ-loop
+loop-holds c = (search needs, every-none _, refl)
+
+returns : tie.Need-returns Inv-loop μ-loop
+unfolding crewsFit
+returns c =
+    let args = c .before .before .before .before .before .before .args in
+    sym (every-stop _ _ _ (c .before .before .before .loop-test .taken)
+    (test-failed (c .before .crew-fits .ensures ∙ ap (λ (x : ℕ). crewFit (args .n) (now (args .book)) x) (c .before .before .nth .ensures))
+    (c .if1 .taken)))
+
+loop-again : tie.Need-loop-again Inv-loop μ-loop
+loop-again c =
+    let args = c .before .before .before .before .before .before .args in (
+      search needs,
+      every-more _ _ (c .before .before .before .before .loop .inv .1)
+          (test-passed (c .before .crew-fits .ensures ∙ ap (λ (x : ℕ). crewFit (args .n) (now (args .book)) x) (c .before .before .nth .ensures))
+          (c .if1 .left)),
+      refl,
+    )
+
+returns-2 : tie.Need-returns-2 Inv-loop μ-loop
+unfolding crewsFit
+returns-2 c = sym (rw (le-antisymm (c .before .loop .inv .0) (c .loop-test .left)) at (c .before .loop .inv .1))
+
+pub crews-fit-spec : {M : Type 1} → statement M
+crews-fit-spec =
+    tie.close
+    (tie.spec
+    Inv-loop
+    μ-loop
+    loop-holds
+    (λ c κs. search needs)
+    (λ c κs. search needs)
+    returns
+    (λ c. search needs)
+    (λ c. search needs)
+    loop-again
+    returns-2)

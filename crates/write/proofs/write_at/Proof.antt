@@ -1,0 +1,257 @@
+-- `register::calls::write::write_at` meets its contract: the parts, the checks that need the home shelf, then the version.
+-- Assumes nothing.
+use Prim.Native.Nat.{ℕ, _+_, _%_, _≤_, _<_}
+use native.Mathlib.Nat.{lt-of-lt-of-le}
+use native.Mathlib.Omega.{arith}
+use mathlib.Core.Path.{_≡_, _∙_, refl, sym, ap, subst, subst₂}
+use mathlib.Core.Bool.{true}
+use denote.Ref.{now}
+use lib.Dec.{lit≤}
+use lib.ListN.{getD}
+use borrow.Author.Tests.{eq-eqb}
+use Rattle.loops.specs.Loops.{pick}
+use Rattle.loops.proofs.BoolLaws.{pick-true, test-passed, test-failed}
+use Rattle.book.specs.declared.parts.Counts.{Counts}
+use Rattle.book.specs.Layout.{end, countsOf, home, crewVector, clock}
+use Rattle.fit.specs.Fit.{Within}
+use Rattle.named.specs.Named.{writeParts, writeFit}
+use Rattle.named.proofs.NamedLaws.{Based, base-open, write-named}
+use Rattle.links.specs.Send.{roomy}
+use Rattle.register.specs.Answers.{refusalOf, numbered, numberOf}
+use Rattle.register.specs.Table.{shelfOf}
+use Rattle.register.specs.Checks.{MayWrite}
+use Rattle.register.proofs.CallLaws.{not-done, refused-write, refused-book, after-done}
+use Rattle.register.proofs.FitReady.{shelf-in}
+use Rattle.register.proofs.HomeLaws.{parts-write}
+use Rattle.register.proofs.SendTable.{write-book, write-wait, write-end, write-full, write-good}
+use borrow.Author.Needs.{needs}
+use Rattle.write.proofs.write_at.Statement.{statement}
+use Rattle.write.proofs.write_at.Tie as tie
+
+-- what the shared checks know of the book
+base : (c : tie.Start) → Based (now (c .args .book))
+base c = base-open _ (c .pre .0)
+
+-- what the test of the parts says
+parts-said :
+    (c : tie.After-write-parts-fit) →
+    let args = c .before .before .before .before .before .before .before .before .args in c .write-parts-fit .result ≡ writeParts (countsOf (now (args .book))) (now (args .book)) (args .c .0) (args .k .0)
+parts-said c = c .write-parts-fit .ensures ∙ parts-write _ _ _ (c .before .before .before .before .before .counts-of .ensures) (c .before .before .before .home-depot .ensures) (c .before .before .shelf-for .ensures)
+
+fits : (c : tie.Else1) → let args = c .before .before .before .before .before .before .before .before .before .args in writeFit (now (args .book)) (args .c .0) (args .k .0) ≡ true
+fits c =
+    let start = c .before .before .before .before .before .before .before .before .before in
+    write-named _ _ _ (start .pre .0) (start .pre .1) (start .pre .2) ∙ test-passed (parts-said (c .before)) (c .if1 .left)
+
+-- where the write stands: the home shelf's clock, and the crew's home entry
+clock-said :
+    (c : tie.After-clock-of) →
+    let args = c .before .before .before .before .before .before .before .before .before .before .before .args in
+    let book = now (args .book) in
+    c .clock-of .result ≡ clock book (home book (args .c .0)) (shelfOf book (args .k .0))
+clock-said c =
+    let counts = c .before .before .before .before .before .before .before .before in
+    let args = c .before .before .before .before .before .before .before .before .before .before .before .args in
+    let book = now (args .book) in
+    c .clock-of .ensures
+    ∙ (λ z. clock book (c .before .before .before .before .before .before .home-depot .ensures z) (c .before .before .before .before .before .shelf-for .ensures z))
+    ∙ ap (λ (n : Counts). clock book (home book (args .c .0)) (args .k .0 % n .shelves)) (counts .counts-of .ensures)
+
+entry-said :
+    (c : tie.After-index) →
+    let args = c .before .before .before .before .before .before .before .before .before .before .before .before .before .args in
+    let book = now (args .book) in
+    getD book (c .before .crew-at .result + c .index .result) 0 ≡ crewVector book (args .c .0) (home book (args .c .0))
+entry-said c =
+    let book = now (c .before .before .before .before .before .before .before .before .before .before .before .before .before .args .book) in
+    let own = c .index .ensures ∙ c .before .before .before .before .before .before .before .before .home-depot .ensures in
+    λ z. getD book (c .before .crew-at .ensures z + own z) 0
+
+-- the numbers that name the parts
+small :
+    (c : tie.After-shelf-for) →
+    let start = c .before .before .before .before .before .before in
+    (c .before .home-depot .result .0 < 4) × (c .shelf-for .result .0 < 4) × (start .args .c .0 < 16) × (c .before .before .before .counts-of .result .depots ≤ 4) × (start .args .k .0 < 160)
+small c =
+    let start = c .before .before .before .before .before .before in
+    let w = base start in
+    let n = c .before .before .before .counts-of .ensures in (
+      subst (λ (x : ℕ). x < 4) (sym (c .before .home-depot .ensures)) (lt-of-lt-of-le (w .homes _ (start .pre .1)) (w .within .depots)),
+      subst (λ (x : ℕ). x < 4) (sym (c .shelf-for .ensures))
+          (subst (λ (m : Counts). start .args .k .0 % m .shelves < 4) (sym n)
+          (lt-of-lt-of-le (shelf-in (countsOf (now (start .args .book))) (w .within) (start .args .k .0)) (w .within .shelves))),
+      lt-of-lt-of-le (start .pre .1) (w .within .crews),
+      subst (λ (m : Counts). m .depots ≤ 4) (sym n) (w .within .depots),
+      lt-of-lt-of-le (start .pre .2) (w .within .bearings),
+    )
+
+-- what each test that was passed says
+told-no-wait :
+    (c : tie.Else2) →
+    let args = c .before .before .before .before .before .before .before .before .before .before .before .before .before .before .before .args in
+    let book = now (args .book) in
+    crewVector book (args .c .0) (home book (args .c .0)) ≤ clock book (home book (args .c .0)) (shelfOf book (args .k .0))
+told-no-wait c =
+    let e = entry-said (c .before .before) in
+    let t = clock-said (c .before .before .before .before) in
+    subst₂ (λ (x y : ℕ). x ≤ y) e t (c .if2 .left)
+
+told-early :
+    (c : tie.Else3) →
+    let args = c .before .before .before .before .before .before .before .before .before .before .before .before .before .before .before .before .args in
+    let book = now (args .book) in
+    clock book (home book (args .c .0)) (shelfOf book (args .k .0)) < end
+told-early c = subst (λ (x : ℕ). x < end) (clock-said (c .before .before .before .before .before)) (c .if3 .left)
+
+roomy-said :
+    (c : tie.After-is-roomy) →
+    let args = c .before .before .before .before .before .before .before .before .before .before .before .before .before .before .before .before .before .before .args in
+    let book = now (args .book) in
+    c .is-roomy .result ≡ roomy (countsOf book .depots) (home book (args .c .0)) (shelfOf book (args .k .0)) book
+roomy-said c =
+    let shelf = c .before .before .before .before .before .before .before .before .before .before .before .before in
+    let counts = shelf .before .before .before in
+    let args = counts .before .before .before .args in
+    let book = now (args .book) in
+    c .is-roomy .ensures
+    ∙ (λ z. roomy (counts .counts-of .result .depots) (shelf .before .home-depot .ensures z) (shelf .shelf-for .ensures z) book)
+    ∙ ap (λ (n : Counts). roomy (n .depots) (home book (args .c .0)) (args .k .0 % n .shelves) book) (counts .counts-of .ensures)
+
+may :
+    (c : tie.Else4) →
+    let shelf = c .before .before .before .before .before .before .before .before .before .before .before .before .before in
+    let counts = shelf .before .before .before in
+    let args = counts .before .before .before .args in
+    MayWrite (now (args .book)) (args .c .0) (args .k .0) (args .value) (counts .counts-of .result .depots) (shelf .before .home-depot .result .0) (shelf .shelf-for .result .0)
+    (c .before .before .before .before .before .before .before .before .clock-of .result + 1)
+may c =
+    let at3 = c .before .before .before in
+    let shelf = c .before .before .before .before .before .before .before .before .before .before .before .before .before in
+    let counts = shelf .before .before .before in
+    let start = counts .before .before .before in
+    let args = start .args in
+    record {
+      passed = write-good _ _ _ _ (fits (c .before .before .before .before .before .before .before .before .before .before)) (start .pre .1) (start .pre .2) (told-no-wait (at3 .before)) (told-early at3) (test-passed (roomy-said (c .before)) (c .if4 .left));
+      depots = ap (λ (n : Counts). n .depots) (counts .counts-of .ensures);
+      depot = shelf .before .home-depot .ensures;
+      shelf = shelf .shelf-for .ensures ∙ ap (λ (n : Counts). args .k .0 % n .shelves) (counts .counts-of .ensures);
+      stamped = ap (λ (x : ℕ). x + 1) (clock-said (c .before .before .before .before .before .before .before .before));
+    }
+
+counts-of-requires : tie.Need-counts-of-requires
+counts-of-requires c κs = base (c .before .before) .full
+
+home-depot-requires : tie.Need-home-depot-requires
+home-depot-requires c κs =
+    let start = c .before .before .before .before in
+    let w = base start in (
+      w .full,
+      lt-of-lt-of-le (start .pre .1) (w .within .crews),
+      subst (λ (n : Counts). home (now (start .args .book)) (start .args .c .0) < n .depots) (sym (c .before .counts-of .ensures)) (w .homes _ (start .pre .1)),
+    )
+
+shelf-for-requires : tie.Need-shelf-for-requires
+shelf-for-requires c κs = subst (λ (n : Counts). 0 < n .shelves) (sym (c .before .before .counts-of .ensures)) (base (c .before .before .before .before .before) .within .shelf)
+
+write-parts-fit-requires : tie.Need-write-parts-fit-requires
+write-parts-fit-requires c κs =
+    let start = c .before .before .before .before .before .before .before in
+    let w = base start in
+    let h = small (c .before) in
+    (w .full, subst Within (sym (c .before .before .before .before .counts-of .ensures)) (w .within), h .2, h .4, h .0, h .1)
+
+returns : tie.Need-returns
+unfolding refusalOf numbered numberOf pick
+returns c =
+    let start = c .before .before .before .before .before .before .before .before .before in
+    let e = write-book _ _ _ _ (start .pre .0) (start .pre .1) (start .pre .2) (test-failed (parts-said (c .before)) (c .if1 .taken)) in
+    record { answer = refused-write _ 1 _ e (not-done 1 refl (lit≤ tt)) refl; book = refused-book _ 1 _ _ e (not-done 1 refl (lit≤ tt)) }
+
+clock-of-requires : tie.Need-clock-of-requires
+clock-of-requires c κs = let h = small (c .before .before .before .before) in (base (c .before .before .before .before .before .before .before .before .before .before) .full, h .0, h .1)
+
+crew-at-requires : tie.Need-crew-at-requires
+crew-at-requires c κs = small (c .before .before .before .before .before) .2
+
+add-if2 : tie.Need-add-if2
+add-if2 c = let h = small (c .before .before .before .before .before .before .before) in omega (arith, h .0, h .2, c .index .ensures, c .before .crew-at .ensures)
+
+mul-if2 : tie.Need-mul-if2
+mul-if2 c = let h = small (c .before .before .before .before .before .before .before) in omega (arith, h .0, h .2, c .index .ensures, c .before .crew-at .ensures)
+
+slice-read-if2 : tie.Need-slice-read-if2
+slice-read-if2 c =
+    let h = small (c .before .before .before .before .before .before .before .before) in
+    let full = base (c .before .before .before .before .before .before .before .before .before .before .before .before .before .before) .full in
+    omega (arith, h .0, h .2, full, c .before .index .ensures, c .before .before .crew-at .ensures)
+
+returns-2 : tie.Need-returns-2
+unfolding refusalOf numbered numberOf pick
+returns-2 c =
+    let at = c .before .before in
+    let start = at .before .before .before .before .before .before .before .before .before .before .before .before .before in
+    let e = write-wait _ _ _ _ (fits (at .before .before .before .before)) (start .pre .1) (start .pre .2) (subst₂ (λ (x y : ℕ). x < y) (clock-said (at .before .before)) (entry-said at) (c .if2 .taken)) in
+    record { answer = refused-write _ 8 _ e (not-done 8 refl (lit≤ tt)) refl; book = refused-book _ 8 _ _ e (not-done 8 refl (lit≤ tt)) }
+
+returns-3 : tie.Need-returns-3
+unfolding refusalOf numbered numberOf pick
+returns-3 c =
+    let at2 = c .before in
+    let at = at2 .before .before in
+    let start = at .before .before .before .before .before .before .before .before .before .before .before .before .before in
+    let e = write-end _ _ _ _ (fits (at .before .before .before .before)) (start .pre .1) (start .pre .2) (told-no-wait at2) (subst (λ (x : ℕ). end ≤ x) (clock-said (at .before .before)) (c .if3 .taken)) in
+    record { answer = refused-write _ 10 _ e (not-done 10 refl (lit≤ tt)) refl; book = refused-book _ 10 _ _ e (not-done 10 refl (lit≤ tt)) }
+
+is-roomy-requires : tie.Need-is-roomy-requires
+is-roomy-requires c κs =
+    let shelf = c .before .before .before .before .before .before .before .before .before .before .before in
+    let h = small shelf in
+    (base (shelf .before .before .before .before .before .before) .full, h .3, h .0, h .1)
+
+returns-4 : tie.Need-returns-4
+unfolding refusalOf numbered numberOf pick
+returns-4 c =
+    let at3 = c .before .before .before in
+    let start = at3 .before .before .before .before .before .before .before .before .before .before .before .before .before .before .before .before in
+    let e = write-full _ _ _ _ (fits (at3 .before .before .before .before .before .before .before)) (start .pre .1) (start .pre .2) (told-no-wait (at3 .before)) (told-early at3) (test-failed (roomy-said (c .before)) (c .if4 .taken)) in
+    record { answer = refused-write _ 9 _ e (not-done 9 refl (lit≤ tt)) refl; book = refused-book _ 9 _ _ e (not-done 9 refl (lit≤ tt)) }
+
+add-write-version : tie.Need-add-write-version
+add-write-version c = let t = c .before .before .before .before .if3 .left in omega (arith, t)
+
+write-version-requires : tie.Need-write-version-requires
+write-version-requires c κs = may (c .before)
+
+returns-5 : tie.Need-returns-5
+returns-5 c =
+    let call = c .before .before .write-version in
+    let e = may (c .before .before .before .before) .passed in
+    record { answer = call .ensures .0 ∙ sym (pick-true _ _ (eq-eqb _ _ e)); book = call .ensures .1 ∙ after-done _ _ _ e }
+
+pub write-at-spec : {M : Type 1} → statement M
+write-at-spec =
+    tie.close
+    (tie.spec
+    counts-of-requires
+    home-depot-requires
+    shelf-for-requires
+    write-parts-fit-requires
+    (λ c. search needs)
+    returns
+    clock-of-requires
+    crew-at-requires
+    (λ c κs. search needs)
+    add-if2
+    mul-if2
+    slice-read-if2
+    (λ c. search needs)
+    returns-2
+    (λ c. search needs)
+    returns-3
+    is-roomy-requires
+    (λ c. search needs)
+    returns-4
+    add-write-version
+    write-version-requires
+    (λ c. search needs)
+    returns-5)
