@@ -4,7 +4,7 @@ use Prim.Native.Nat.{ℕ, zero, suc, _<_}
 use native.Mathlib.Omega.{arith}
 use mathlib.Core.Path.{_≡_, refl, sym, subst, ap}
 use mathlib.Core.Logic.{_⊎_, inl, inr, ⊎-elim}
-use mathlib.Core.List.{List, [], _∷_, _++_, reverse, List·Memᴰ·head, List·Memᴰ·tail, List·Memᴰ·cases-cons, List·Memᴰ·not-nil, List·Memᴰ·append-cases}
+use mathlib.Core.List.{List, [], _∷_, _++_, reverse, List·Memᴰ·cases-cons, List·Memᴰ·not-nil, List·Memᴰ·append-cases}
 use Rattle.paper.specs.Calls.{Call, read, tick, take, refresh}
 use Rattle.model.specs.Parts.{State, fresh}
 use Rattle.model.specs.Rules.{shown, settled, settle, storing, keep}
@@ -14,20 +14,15 @@ use Rattle.model.specs.Demands as demands
 use Rattle.model.specs.Demands.{IsTake, a-take, IsRefresh, a-refresh, IsTick, a-tick, Among, Each, Round, Rounds}
 use Rattle.model.specs.Cases.{counts, homes, caseF}
 use Rattle.model.specs.Words.{allRefreshed, allTicked, twoWrites, firstTakes, oneRound, secondTakes, twoRounds, duo, numberAfter}
+use Rattle.model.proofs.Possible.{row, grid, grid-has, grid-each}
 use Rattle.model.proofs.Lawful.{dominates, lawful, lawful-agrees}
 use Rattle.model.proofs.Computed.{answersNow, endsNow, ends-computed}
 
-each-none : (kind : Call → Type 0) → Each kind []
-each-none kind q m = absurd (List·Memᴰ·not-nil m)
-
-each-more : (kind : Call → Type 0) {p : Call} {l : List Call} → kind p → Each kind l → Each kind (p ∷ l)
-each-more kind k each q m = ⊎-elim (λ e. subst kind (sym e) k) (each q) (List·Memᴰ·cases-cons m)
-
 pub taking : {d s o : ℕ} {l : List Call} → Each IsTake l → Each IsTake (take d s o ∷ l)
-taking e = each-more IsTake a-take e
+taking each q m = ⊎-elim (λ e. subst IsTake (sym e) a-take) (each q) (List·Memᴰ·cases-cons m)
 
 pub no-takes : Each IsTake []
-no-takes = each-none IsTake
+no-takes q m = absurd (List·Memᴰ·not-nil m)
 
 -- what holds of both depots, or both shelves
 both : (Q : ℕ → Type 0) → Q 0 → Q 1 → (x : ℕ) → x < 2 → Q x
@@ -48,31 +43,18 @@ all-links h a b c e d s o hd hs ho =
     d hd
 
 -- and four shelves
-abbrev all : (ℕ → ℕ → Call) → List Call
-all f = f 1 1 ∷ (f 1 0 ∷ (f 0 1 ∷ (f 0 0 ∷ [])))
-
-in-all : (f : ℕ → ℕ → Call) (d s : ℕ) → d < 2 → s < 2 → Among (f d s) (all f)
-in-all f d s hd hs =
-    both (λ d. Among (f d s) (all f))
-    (both (λ s. Among (f 0 s) (all f)) (List·Memᴰ·tail (List·Memᴰ·tail (List·Memᴰ·tail (List·Memᴰ·head refl)))) (List·Memᴰ·tail (List·Memᴰ·tail (List·Memᴰ·head refl))) s hs)
-    (both (λ s. Among (f 1 s) (all f)) (List·Memᴰ·tail (List·Memᴰ·head refl)) (List·Memᴰ·head refl) s hs)
-    d hd
-
-each-of-all : (kind : Call → Type 0) (f : ℕ → ℕ → Call) → ((d s : ℕ) → kind (f d s)) → Each kind (all f)
-each-of-all kind f k = each-more kind (k 1 1) (each-more kind (k 1 0) (each-more kind (k 0 1) (each-more kind (k 0 0) (each-none kind))))
-
 pub all-refreshes : Each IsRefresh allRefreshed
-unfolding allRefreshed
-all-refreshes = each-of-all IsRefresh refresh (λ d s. a-refresh)
+unfolding allRefreshed grid row
+all-refreshes = grid-each IsRefresh refresh 2 2 (λ d s. a-refresh)
 
 pub all-ticks : Each IsTick allTicked
-unfolding allTicked
-all-ticks = each-of-all IsTick tick (λ d s. a-tick)
+unfolding allTicked grid row
+all-ticks = grid-each IsTick tick 2 2 (λ d s. a-tick)
 
 -- a round of these takes, then every shelf refreshed, then every shelf ticked
 pub round-of : (takes g : List Call) → Each IsTake takes → ((d s o : ℕ) → d < 2 → s < 2 → o < 2 → Emptied (takes ++ g) d s o)
     → Round counts duo g (allTicked ++ (allRefreshed ++ (takes ++ g)))
-unfolding allRefreshed allTicked counts
+unfolding allRefreshed allTicked counts grid row
 round-of takes g are emptied = record {
   takes = takes;
   refreshes = allRefreshed;
@@ -81,8 +63,8 @@ round-of takes g are emptied = record {
   are-refreshes = all-refreshes;
   are-ticks = all-ticks;
   emptied = emptied;
-  refreshed = in-all refresh;
-  ticked = in-all tick;
+  refreshed = grid-has refresh 2 2;
+  ticked = grid-has tick 2 2;
   ends = refl;
 }
 

@@ -19,6 +19,21 @@ use Rattle.model.specs.Demands as demands
 use Rattle.model.specs.Demands.{AtLeast, Silent, Wrote, Got, MadeAt, now, earlier, Made, Past, wrote, got, kept, under}
 use Rattle.model.specs.Demands.{NotInvented, WriteAnswers, Demand2, Round, Rounds, lowestClock, Demand3, Limits, Demands}
 
+-- a round of one system is a round of another that has the same numbers
+round-by : {π : Counts} {S T : System} → ((h : List Call) (q : Call) → T .number (after T h) q ≡ S .number (after S h) q) → {g h : List Call} → Round π S g h → Round π T g h
+round-by same {g} r = record {
+  takes = r .takes;
+  refreshes = r .refreshes;
+  ticks = r .ticks;
+  are-takes = r .are-takes;
+  are-refreshes = r .are-refreshes;
+  are-ticks = r .are-ticks;
+  emptied = λ d s o hd hs ho n. same (r .takes ++ g) (take d s o) ∙ r .emptied d s o hd hs ho n;
+  refreshed = r .refreshed;
+  ticked = r .ticked;
+  ends = r .ends;
+}
+
 module _ {π : Counts} {S T : System} (f : Follows π S T) where
   -- the state after every history
   pub sees : (h : List Call) → f .Sees (after S h) (after T h)
@@ -132,38 +147,10 @@ module _ {π : Counts} {S T : System} (f : Follows π S T) where
 
   -- ---- demand 3
 
-  round-to : {g h : List Call} → Round π S g h → Round π T g h
-  round-to {g} {h} r = record {
-    takes = r .takes;
-    refreshes = r .refreshes;
-    ticks = r .ticks;
-    are-takes = r .are-takes;
-    are-refreshes = r .are-refreshes;
-    are-ticks = r .are-ticks;
-    emptied = λ d s o hd hs ho n. sym (alike (r .takes ++ g) .number (take d s o)) ∙ r .emptied d s o hd hs ho n;
-    refreshed = r .refreshed;
-    ticked = r .ticked;
-    ends = r .ends;
-  }
-
-  round-from : {g h : List Call} → Round π T g h → Round π S g h
-  round-from {g} {h} r = record {
-    takes = r .takes;
-    refreshes = r .refreshes;
-    ticks = r .ticks;
-    are-takes = r .are-takes;
-    are-refreshes = r .are-refreshes;
-    are-ticks = r .are-ticks;
-    emptied = λ d s o hd hs ho n. alike (r .takes ++ g) .number (take d s o) ∙ r .emptied d s o hd hs ho n;
-    refreshed = r .refreshed;
-    ticked = r .ticked;
-    ends = r .ends;
-  }
-
   rounds-to : {n : ℕ} {g h : List Call} → Rounds π S n g h → Rounds π T n g h
   rounds-to demands.begin = demands.begin
   rounds-to (demands.between r) = demands.between (rounds-to r)
-  rounds-to (demands.round r i) = demands.round (rounds-to r) (round-to i)
+  rounds-to (demands.round r i) = demands.round (rounds-to r) (round-by (λ h q. sym (alike h .number q)) i)
 
   silent-to : {c : ℕ} {g h : List Call} → Silent S c g h → Silent T c g h
   silent-to demands.start = demands.start
@@ -174,7 +161,7 @@ module _ {π : Counts} {S T : System} (f : Follows π S T) where
   lowest-same h d hd = times-same (π .shelves) _ _ end λ s m hs. ap (λ (t : ℕ). min m t) (alike h .clock d s hd hs)
 
   pub demand3-from : Demand3 π T → Demand3 π S
-  unfolding round-from
+  unfolding round-by
   demand3-from D = record {
     delivered = λ g h w m r d hd.
         let m′ = made-to m in
@@ -189,7 +176,7 @@ module _ {π : Counts} {S T : System} (f : Follows π S T) where
         D .waits g h c
         (subst₂ (λ x y. Rounds π T (x - y) g h) (ap (S .crew (after S g) c) house ∙ alike g .crew c _ hc below) (ap (lowestClock π S g) house ∙ lowest-same g _ below) (rounds-to r))
         (silent-to s) k v e′;
-    possible = λ h. let p = D .possible h in (p .0, record { round = round-from (p .1 .round); refreshes = p .1 .refreshes; ticks = p .1 .ticks });
+    possible = λ h. let p = D .possible h in (p .0, record { round = round-by (λ h q. alike h .number q) (p .1 .round); refreshes = p .1 .refreshes; ticks = p .1 .ticks });
   }
 
   -- ---- limits
