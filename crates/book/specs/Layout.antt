@@ -35,6 +35,13 @@ links = 64
 abbrev pub slotWords : ℕ
 slotWords = 10
 
+-- the words of a link's sixteen slots, and of a depot's stored versions
+abbrev pub linkWords : ℕ
+linkWords = 160
+
+abbrev pub storeWords : ℕ
+storeWords = 1440
+
 -- ---- places
 
 abbrev pub homeAt : ℕ → ℕ
@@ -63,10 +70,10 @@ abbrev pub takenAt : ℕ → ℕ
 takenAt q = 229 + 2 * q
 
 abbrev pub slotAt : ℕ → ℕ → ℕ
-slotAt q i = 356 + 160 * q + 10 * i
+slotAt q i = 356 + linkWords * q + slotWords * i
 
 abbrev pub storedAt : ℕ → ℕ → ℕ
-storedAt d k = 10596 + 1440 * d + 9 * k
+storedAt d k = 10596 + storeWords * d + recordWords * k
 
 -- ---- what stands there, in a book l
 

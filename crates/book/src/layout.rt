@@ -3,6 +3,7 @@ use crate::numbers::Bearing;
 use crate::numbers::Crew;
 use crate::numbers::Depot;
 use crate::numbers::Shelf;
+use order::record::RECORD_WORDS;
 ghost use mathlib.Core.Path.{_≡_};
 ghost use Prim.Native.Nat.{_≤_, _<_};
 ghost use Rattle.order.specs.Record.{mostDepots};
@@ -33,6 +34,11 @@ pub const BEARING_ROOM: usize = 160;
 pub const LINK_ROOM: usize = 16;
 
 pub const SLOT_WORDS: usize = 10;
+
+// The words of a link's slots, and of a depot's stored versions.
+const LINK_WORDS: usize = 160;
+
+const STORE_WORDS: usize = 1440;
 
 // Behind the kind of a message stand a copy's record, and in it the vector, or a heartbeat's stamp.
 pub const SLOT_RECORD: usize = 1;
@@ -79,7 +85,7 @@ impl Link {
         requires { ⌜ (self .0 < links) × (i ≤ linkRoom) ⌝ }
         ensures { λ r. ⌜ r ≡ slotAt (self .0) i ⌝ }
     {
-        356 + 160 * self.0 + 10 * i
+        356 + LINK_WORDS * self.0 + SLOT_WORDS * i
     }
 }
 
@@ -128,5 +134,5 @@ pub fn stored_at(d: Depot, k: Bearing) -> usize
     requires { ⌜ (d .0 < mostDepots) × (k .0 < bearingRoom) ⌝ }
     ensures { λ r. ⌜ r ≡ storedAt (d .0) (k .0) ⌝ }
 {
-    10596 + 1440 * d.index() + 9 * k.index()
+    10596 + STORE_WORDS * d.index() + RECORD_WORDS * k.index()
 }

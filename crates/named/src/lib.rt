@@ -1,5 +1,4 @@
 // The parts that each call names: what it reads or writes, and nothing else.
-use book::layout::BEARING_ROOM;
 use book::layout::BOOK_WORDS;
 use book::layout::END;
 use book::layout::LINK_ROOM;
@@ -102,17 +101,17 @@ pub fn take_parts_fit(book: &[u32], n: Counts, d: Depot, s: Shelf, from: Depot) 
 // Whether the stored version at a depot of the bearing of the copy in slot i of a link is fit.
 fn place_fits(book: &[u32], n: Counts, d: Depot, q: Link, i: usize) -> bool
     requires { ⌜ (length (now book) ≡ bookWords) × (n .depots ≤ mostDepots) × (d .0 < mostDepots) × (q .0 < links) × (i < linkRoom)
-        × (bearingOf (recordOf (slot (now book) (q .0) i)) < bearingRoom) ⌝ }
+        × (bearingOf (recordOf (slot (now book) (q .0) i)) < n .bearings) × (n .bearings ≤ bearingRoom) ⌝ }
     ensures { λ r. ⌜ r ≡ storedFit n (now (book .entry)) (d .0) (bearingOf (recordOf (slot (now (book .entry)) (q .0) i))) ⌝ }
 {
     let k = wide(book[q.slot_at(i) + SLOT_RECORD]);
-    stored_fits(book, n, d, Bearing::nth(k, BEARING_ROOM))
+    stored_fits(book, n, d, Bearing::nth(k, n.bearings))
 }
 
 // Whether those of the first `count` copies of a link are.
 fn places_fit(book: &[u32], n: Counts, d: Depot, q: Link, count: usize) -> bool
     requires { ⌜ (length (now book) ≡ bookWords) × (n .depots ≤ mostDepots) × (d .0 < mostDepots) × (q .0 < links) × (count ≤ linkRoom)
-        × ((i : ℕ) → i < count → bearingOf (recordOf (slot (now book) (q .0) i)) < bearingRoom) ⌝ }
+        × ((i : ℕ) → i < count → bearingOf (recordOf (slot (now book) (q .0) i)) < n .bearings) × (n .bearings ≤ bearingRoom) ⌝ }
     ensures { λ r. ⌜ r ≡ every count (λ i. storedFit n (now (book .entry)) (d .0) (bearingOf (recordOf (slot (now (book .entry)) (q .0) i)))) ⌝ }
 {
     let mut i = 0;

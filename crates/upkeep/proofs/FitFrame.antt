@@ -106,19 +106,6 @@ stored-same n l m d k e h = ap (keptFit n k) e ∙ h
 
 -- ---- changes together
 
-pub keeps-none : (n : Counts) (l : List ℕ) → Keeps n l l
-keeps-none n l =
-    record {
-      size = refl;
-      low = λ j k. refl;
-      crews = λ c k h. h;
-      clocks = λ d s a b h. h;
-      stables = λ d s a b h. h;
-      stamps = λ d s x a b k h. h;
-      links = λ s from to a b c f. record { head = λ h. h; whole = λ h. h };
-      stores = λ d k a b h. h;
-    }
-
 pub keeps-then : (n : Counts) (l m v : List ℕ) → Keeps n l m → Keeps n m v → Keeps n l v
 keeps-then n l m v K J =
     record {

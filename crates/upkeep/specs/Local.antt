@@ -1,5 +1,5 @@
 -- Locality. What a request is answered, and every word that it writes, is settled by the words that it names; and a word that it does not write
--- stays, whatever stands there. The words named are those of the parts in fit/specs/Named.antt: lay `TickWord` beside `tickParts`, `LinkWord`
+-- stays, whatever stands there. The words named are those of the parts in named/specs/Named.antt: lay `TickWord` beside `tickParts`, `LinkWord`
 -- beside `linkFit`, and so on.
 -- Assumes nothing.
 use Prim.Native.Nat.{ℕ, _+_, _*_, _-_, _%_, _≤_, _<_}

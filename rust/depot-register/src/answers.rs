@@ -6,7 +6,7 @@ use std::fmt;
 /// Why a call was refused. A refused call changed no word of the book.
 #[derive(Clone, Copy, Debug, PartialEq, Eq, Hash)]
 pub enum Refusal {
-    /// The book is not fit.
+    /// The length, a count, a home or a part that the call looks at is not fit.
     BadBook = 1,
     /// A depot or a home is not below the count of depots.
     BadDepot = 2,

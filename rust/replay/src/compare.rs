@@ -58,6 +58,7 @@ pub struct Finding {
 pub fn replay_list(left: &dyn Register, right: &dyn Register, seed: u64, tally: &mut Tally) -> Result<(), Finding> {
     let mut pair = Pair::new(left, right);
     let mut generator = Generator::new(seed);
+    tally.start();
     let mut steps = Vec::new();
     while let Some(step) = generator.next(pair.buffer()) {
         let outcome = pair.step(&step, |before, after, outcome| tally.count(&step, before, after, outcome));

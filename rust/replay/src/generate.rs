@@ -8,7 +8,7 @@ use crate::event::{Event, Step, BUFFER, MOST_BYTES, MOST_OUT};
 use crate::lines;
 use crate::random::Random;
 use straight::layout::*;
-use straight::{is_fit, Counts};
+use straight::{counts_and_homes, is_fit, Counts};
 
 /// What a stretch of a list is mostly about.
 #[derive(Clone, Copy)]
@@ -42,25 +42,12 @@ const MOODS: [Mood; 14] = [
     Mood::Lines,
 ];
 
-/// The lists from this seed on are sweeps: the list of `SWEEPS + n` damages each word of part n mod [`PARTS`] of the book.
-pub const SWEEPS: u64 = 1 << 32;
-/// The parts in which a sweep goes over a book.
-pub const PARTS: u64 = 64;
-
 pub struct Generator {
     random: Random,
     left: usize,
     mood: Mood,
     mood_left: usize,
     waiting: VecDeque<Event>,
-    sweep: Option<Sweep>,
-}
-
-/// Where a sweep is: the word it damages now, what stood there, and the end of its part.
-struct Sweep {
-    at: usize,
-    old: Option<u32>,
-    end: usize,
 }
 
 impl Generator {
@@ -69,15 +56,6 @@ impl Generator {
         let mut random = Random::new(seed);
         let left = random.between(100, 500);
         let mut waiting = VecDeque::new();
-        if seed >= SWEEPS {
-            let words = WORDS / PARTS as usize;
-            let at = (seed % PARTS) as usize * words;
-            let counts =
-                if random.percent(50) { [MOST_DEPOTS, MOST_SHELVES, MOST_BEARINGS, MOST_CREWS] } else { counts(&mut random) };
-            waiting.push_back(lay(&mut random, counts));
-            let sweep = Some(Sweep { at, old: None, end: at + words });
-            return Generator { random, left: usize::MAX, mood: Mood::Mixed, mood_left: 20, waiting, sweep };
-        }
         match random.below(10) {
             0 => {}
             1..=4 => {
@@ -86,7 +64,7 @@ impl Generator {
             }
             _ => waiting.push_back(setup(&mut random)),
         }
-        Generator { random, left, mood: Mood::Mixed, mood_left: 20, waiting, sweep: None }
+        Generator { random, left, mood: Mood::Mixed, mood_left: 20, waiting }
     }
 
     /// The next step, for a book as it is now; none at the list's end.
@@ -96,9 +74,6 @@ impl Generator {
         }
         self.left -= 1;
         let book = &buffer[..WORDS];
-        if self.sweep.is_some() {
-            return self.sweep(book).map(Step::new);
-        }
         // A third of all steps are damaged lines.
         if self.random.percent(33) {
             let call = self.call(book);
@@ -112,30 +87,6 @@ impl Generator {
         let mut step = Step::new(event);
         self.odd_lengths(&mut step);
         Some(step)
-    }
-
-    /// Damages one word after the other. A call meets each; if the book is not fit, the word is put right again.
-    fn sweep(&mut self, book: &[u32]) -> Option<Event> {
-        if let Some(event) = self.waiting.pop_front() {
-            return Some(event);
-        }
-        let sweep = self.sweep.as_mut()?;
-        let at = sweep.at;
-        if let Some(old) = sweep.old.take() {
-            sweep.at += 1;
-            if !is_fit(book) {
-                return Some(Event::Put { at, word: old });
-            }
-            return self.sweep(book);
-        }
-        if at == sweep.end {
-            return None;
-        }
-        sweep.old = Some(book[at]);
-        let call = self.call(book);
-        self.waiting.push_back(call);
-        let word = self.spoilt(book, at);
-        Some(Event::Put { at, word })
     }
 
     /// Now and then a book of the wrong length, or too little room for the answer.
@@ -156,7 +107,9 @@ impl Generator {
     }
 
     fn event(&mut self, book: &[u32]) -> Event {
-        if !is_fit(book) && self.random.percent(40) {
+        // Where the counts and the homes are fit, much goes on beside a damaged word.
+        let patience = if !counts_and_homes(book) { 60 } else { 95 };
+        if !self.random.percent(patience) && !is_fit(book) {
             return self.afresh();
         }
         if self.mood_left == 0 {
@@ -168,7 +121,7 @@ impl Generator {
             return self.seldom();
         }
         match self.mood {
-            Mood::Rounds if is_fit(book) => {
+            Mood::Rounds if counts_and_homes(book) => {
                 self.round(book);
                 self.waiting.pop_front().unwrap_or(Event::Fit)
             }
@@ -203,7 +156,8 @@ impl Generator {
 
     /// A call whose numbers are in range, if the book has any.
     fn call(&mut self, book: &[u32]) -> Event {
-        let n = if is_fit(book) { Counts::of(book) } else { Counts { depots: 2, shelves: 2, bearings: 4, crews: 2 } };
+        let any = Counts { depots: 2, shelves: 2, bearings: 4, crews: 2 };
+        let n = if counts_and_homes(book) { Counts::of(book) } else { any };
         let weights = match self.mood {
             Mood::Writers | Mood::Ends => [10, 75, 15, 0, 0],
             Mood::Takers => [15, 0, 0, 70, 15],
@@ -273,7 +227,7 @@ impl Generator {
                 refreshes.push(Event::Refresh { depot, shelf });
                 for from in (0..n.depots as u32).filter(|&from| from != depot) {
                     let link = link(shelf as usize, from as usize, depot as usize);
-                    for _ in 0..(book[held(link)] - book[taken(link)] + 1).min(4) {
+                    for _ in 0..book[held(link)].saturating_sub(book[taken(link)]).min(3) + 1 {
                         takes.push(Event::Take { depot, shelf, from });
                     }
                 }
@@ -299,8 +253,18 @@ impl Generator {
             if random.percent(45) {
                 let any = random.word();
                 let count = count as u32;
-                *number =
-                    random.choose(&[count, count.wrapping_add(1), count.wrapping_sub(1), 4, 16, 160, 161, 1 << 31, u32::MAX, any]);
+                *number = random.choose(&[
+                    count,
+                    count.wrapping_add(1),
+                    count.wrapping_sub(1),
+                    4,
+                    16,
+                    160,
+                    161,
+                    1 << 31,
+                    u32::MAX,
+                    any,
+                ]);
             }
         };
         match &mut event {
@@ -330,7 +294,7 @@ impl Generator {
         let at = self.place(book);
         let word = self.spoilt(book, at);
         for _ in 0..self.random.between(1, 3) {
-            let call = self.call(book);
+            let call = if self.random.percent(15) { self.wrong(book) } else { self.call(book) };
             self.waiting.push_back(call);
         }
         if self.random.percent(75) {
@@ -428,7 +392,7 @@ impl Generator {
     /// Clocks, entries and stamps near the last number, and calls that meet them.
     fn ends(&mut self, book: &[u32]) -> Event {
         let n = Counts::of(book);
-        if !is_fit(book) || self.random.percent(70) {
+        if !counts_and_homes(book) || self.random.percent(70) {
             return self.call(book);
         }
         let random = &mut self.random;

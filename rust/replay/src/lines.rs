@@ -1,7 +1,6 @@
 //! Lines of the desk, good and damaged.
 
 use crate::event::Event;
-use crate::generate::Generator;
 use crate::random::Random;
 
 /// A call as a line of the desk.
@@ -101,32 +100,4 @@ fn many_numbers(random: &mut Random) -> Vec<u8> {
     let counts = [depots, random.between(1, 4), random.between(1, 160), count.max(4) - 4];
     let numbers = counts.into_iter().chain((0..20).map(|_| random.below(depots))).take(count);
     numbers.fold("S".to_string(), |line, number| format!("{} {}", line, number)).into_bytes()
-}
-
-/// Desk input of about so many lines, a third of them damaged, and the last without its line feed.
-pub fn stream(seed: u64, count: u64) -> Vec<u8> {
-    let mut input = Vec::new();
-    let mut book = vec![0; crate::event::BUFFER];
-    let mut lines = 0;
-    let mut seed = seed;
-    while lines < count {
-        let mut generator = Generator::new(seed);
-        while let Some(step) = generator.next(&book) {
-            let line = match &step.event {
-                Event::Line(line) => line.clone(),
-                Event::Lay(_) | Event::Put { .. } | Event::Fit | Event::Greater { .. } => continue,
-                call => text(call),
-            };
-            // A line feed within makes two lines of it.
-            for part in line.split(|&byte| byte == b'\n') {
-                straight::line(&mut book[..straight::WORDS], part);
-                input.extend_from_slice(part);
-                input.push(b'\n');
-                lines += 1;
-            }
-        }
-        seed += 1;
-    }
-    input.extend_from_slice(b"K 0 0");
-    input
 }

@@ -116,7 +116,7 @@ impl Shrinking<'_> {
         }
     }
 
-    /// Takes away words of a laid book, bytes of a line, homes of a setup, and odd lengths.
+    /// Takes away words of a laid book, bytes of a line, crews of a setup, and odd lengths.
     fn shorten(&mut self, at: usize) {
         let mut size = length(self.steps.get(at)) / 2 + 1;
         while size > 0 {
@@ -126,7 +126,13 @@ impl Shrinking<'_> {
                 match &mut steps[at].event {
                     Event::Lay(words) => drop(words.drain(from..(from + size).min(words.len()))),
                     Event::Line(text) => drop(text.drain(from..(from + size).min(text.len()))),
-                    Event::Setup { homes, .. } => drop(homes.drain(from..(from + size).min(homes.len()))),
+                    Event::Setup { counts, homes } => {
+                        let as_many = counts[3] as usize == homes.len();
+                        homes.drain(from..(from + size).min(homes.len()));
+                        if as_many {
+                            counts[3] = homes.len() as u32;
+                        }
+                    }
                     _ => return,
                 }
                 if !self.keep(steps) {

@@ -52,6 +52,10 @@ marks! {
     SeenFalls: "a take that lowers the stamp seen",
     Laid: "a fit book laid out at random",
     Unfit: "a word changed, and the book is not fit",
+    DoneUnfit: "a call done on a book that is not fit elsewhere",
+    RefusedUnfit: "a refusal but BAD BOOK, on a book that is not fit elsewhere",
+    WrongUnfit: "a number out of range, on a book that is not fit elsewhere",
+    BadPart: "BAD BOOK for a part of the call, the counts and homes being fit",
     StillFit: "a word changed, and the book is still fit",
     WrongLength: "a call on a book of the wrong length",
     LittleRoom: "an answer with too little room",
@@ -73,11 +77,13 @@ pub struct Tally {
     pub bad_lines: u64,
     answers: [[u64; 14]; 7],
     marks: Vec<u64>,
+    /// Whether the book is fit, as far as the last event that says so told.
+    fit: bool,
 }
 
 impl Default for Tally {
     fn default() -> Tally {
-        Tally { events: 0, bad_lines: 0, answers: [[0; 14]; 7], marks: vec![0; MARKS.len()] }
+        Tally { events: 0, bad_lines: 0, answers: [[0; 14]; 7], marks: vec![0; MARKS.len()], fit: false }
     }
 }
 
@@ -102,6 +108,11 @@ impl Tally {
         }
     }
 
+    /// A list starts, with a book of zeros.
+    pub fn start(&mut self) {
+        self.fit = false;
+    }
+
     /// Counts a step, by the buffer before and after it.
     pub fn count(&mut self, step: &Step, before: &[u32], after: &[u32], outcome: &Outcome) {
         let done = self.answer(step, outcome);
@@ -117,6 +128,7 @@ impl Tally {
         if done && called && step.words == WORDS {
             self.book(&before[..WORDS]);
         }
+        self.fitness(step, before, outcome);
         let n = Counts::of(before);
         match &step.event {
             Event::Lay(_) => self.mark_if(outcome.number == 1, Mark::Laid),
@@ -206,6 +218,34 @@ impl Tally {
         number == 0 && row < 6
     }
 
+    /// What a book that is not fit did to a call that met it.
+    fn fitness(&mut self, step: &Step, before: &[u32], outcome: &Outcome) {
+        let says_so = matches!(step.event, Event::Lay(_) | Event::Put { .. } | Event::Fit);
+        if step.words != WORDS {
+            return;
+        }
+        if says_so {
+            self.fit = outcome.number == 1;
+            return;
+        }
+        let set_up = matches!(step.event, Event::Setup { .. }) && outcome.number == 0;
+        let set_up_line = matches!(&step.event, Event::Line(text) if text.starts_with(b"S")) && outcome.bytes[0] == b'0';
+        if set_up || set_up_line {
+            self.fit = true;
+        }
+        let call = matches!(
+            step.event,
+            Event::Read { .. } | Event::Write { .. } | Event::Tick { .. } | Event::Take { .. } | Event::Refresh { .. }
+        );
+        if call && !self.fit {
+            let by_part = outcome.number == 1 && straight::counts_and_homes(&before[..WORDS]);
+            self.mark_if(outcome.number == 0, Mark::DoneUnfit);
+            self.mark_if(by_part, Mark::BadPart);
+            self.mark_if((2..=5).contains(&outcome.number), Mark::WrongUnfit);
+            self.mark_if(outcome.number > 5, Mark::RefusedUnfit);
+        }
+    }
+
     /// What kind of book a call was done on.
     fn book(&mut self, book: &[u32]) {
         if let Some(mark) =
@@ -258,7 +298,7 @@ impl Tally {
         self.mark_if(reasons > 1, Mark::Several);
         if number == straight::Refusal::LinkFull as usize {
             self.mark_if(links().filter(|&link| full(link)).all(|link| book[taken(link)] > 0), Mark::FullByTaken);
-            self.mark_if(links().next().map_or(false, |link| !full(link)), Mark::FullLater);
+            self.mark_if(links().next().is_some_and(|link| !full(link)), Mark::FullLater);
         }
     }
 

@@ -3,22 +3,28 @@
 use std::time::Duration;
 
 use replay::compare::{differs, replay_list, Finding};
-use replay::generate::{PARTS, SWEEPS};
+use replay::damage::{round, Damaged, Trouble};
 use replay::register::Straight;
 use replay::shrink::shrink;
-use replay::slips::{desk, Slip, Slipped, SLIPS};
+use replay::slips::{desk, slips, Slip, Slipped};
 use replay::tally::{Tally, MARKS};
 
-/// The first list that tells a slip from the straight version.
+/// The first list that tells a slip from the straight version: random ones, then damage in every place.
 fn found(slip: Slip) -> Option<Finding> {
-    let mut tally = Tally::default();
-    (1..=400).chain(SWEEPS..SWEEPS + PARTS).find_map(|seed| replay_list(&Straight, &Slipped(slip), seed, &mut tally).err())
+    let other = Slipped(slip);
+    let list = |seed| replay_list(&Straight, &other, seed, &mut Tally::default()).err();
+    let damage = |seed| match round(&Straight, &other, seed, &mut Damaged::default(), &mut |_| ()) {
+        Err(Trouble::Differ(finding)) => Some(finding),
+        Err(Trouble::Effect(text)) => panic!("the straight version: {}", text),
+        Ok(()) => None,
+    };
+    (1..=400).find_map(list).or_else(|| (0..16).find_map(damage))
 }
 
 #[test]
 fn every_slip_is_found() {
-    let missed: Vec<_> = SLIPS.iter().filter(|&&slip| found(slip).is_none()).collect();
-    assert!(missed.is_empty(), "not found in 400 lists and a sweep: {:?}", missed);
+    let missed: Vec<String> = slips().iter().filter(|&&slip| found(slip).is_none()).map(Slip::to_string).collect();
+    assert!(missed.is_empty(), "not found in 400 lists and 16 rounds of damage: {:?}", missed);
 }
 
 #[test]
@@ -44,6 +50,6 @@ fn lists_are_shrunk() {
 
 #[test]
 fn a_last_line_without_its_line_feed_is_in_every_stream() {
-    let input = replay::lines::stream(1, 100);
+    let input = replay::stream::stream(1, 100);
     assert_ne!(desk(&input), straight::desk(&input));
 }

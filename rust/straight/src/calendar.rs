@@ -1,19 +1,22 @@
-//! The calendar, written a second time, plainly: the Gregorian years 2000 to 2399, counted from day 0, 1 January 2000.
+//! The calendar: dates of the years 2000 to 2399, their day numbers, and the dates that follow an anchor in steps of months.
 //!
-//! It shares no line with the proved calendar and goes another way: it adds up the days of years and months, without a table.
-//! Unlike the rest of this crate it was written by somebody who had read the proved source.
+//! It counts: the days of the years before, the days of the months before, the day. No rule is shortened.
 //!
 //! ```
 //! use straight::calendar::{next_date, Date};
 //!
 //! let anchor = Date { year: 2023, month: 1, day: 31 };
-//! assert_eq!(next_date(anchor, 1, 1).unwrap().0, Date { year: 2023, month: 2, day: 28 });
-//! assert_eq!(next_date(anchor, 1, 2).unwrap().0, Date { year: 2023, month: 3, day: 31 });
+//! assert_eq!(next_date(anchor, 1, 1), Ok((Date { year: 2023, month: 2, day: 28 }, 8_459)));
 //! ```
 
-pub const FIRST_YEAR: u32 = 2000;
-pub const LAST_YEAR: u32 = 2399;
+/// The years that the calendar has.
+const FIRST_YEAR: u32 = 2000;
+const LAST_YEAR: u32 = 2399;
 
+/// The days of the twelve months, in a year that is no leap year.
+const MONTHS: [u32; 12] = [31, 28, 31, 30, 31, 30, 31, 31, 30, 31, 30, 31];
+
+/// A year, a month from 1 to 12 and a day from 1 on; any numbers, until [`is_date`] has looked at them.
 #[derive(Clone, Copy, Debug, PartialEq, Eq)]
 pub struct Date {
     pub year: u32,
@@ -21,34 +24,17 @@ pub struct Date {
     pub day: u32,
 }
 
-/// The refusals, with their numbers.
+/// Why there is no answer, by number and in the order of the checks.
 #[derive(Clone, Copy, Debug, PartialEq, Eq)]
 pub enum NoDate {
+    /// It is no date.
     BadDate = 1,
+    /// The step is not 1 to 120 months.
     BadStep = 2,
+    /// The count is 0.
     BadCount = 3,
+    /// The result is after 2399.
     TooLate = 4,
-}
-
-fn is_leap(year: u32) -> bool {
-    year % 400 == 0 || (year % 4 == 0 && year % 100 != 0)
-}
-
-fn days_of_year(year: u32) -> u32 {
-    if is_leap(year) {
-        366
-    } else {
-        365
-    }
-}
-
-fn days_of_month(year: u32, month: u32) -> u32 {
-    match month {
-        4 | 6 | 9 | 11 => 30,
-        2 if is_leap(year) => 29,
-        2 => 28,
-        _ => 31,
-    }
 }
 
 /// Whether there is such a date.
@@ -58,7 +44,7 @@ pub fn is_date(date: Date) -> bool {
         && (1..=days_of_month(date.year, date.month)).contains(&date.day)
 }
 
-/// The date's day number: the days of the years, of the months and of the month before it.
+/// The day number of a date; 1 January 2000 is 0.
 pub fn day_number(date: Date) -> Result<u32, NoDate> {
     if !is_date(date) {
         return Err(NoDate::BadDate);
@@ -68,9 +54,9 @@ pub fn day_number(date: Date) -> Result<u32, NoDate> {
     Ok(years + months + date.day - 1)
 }
 
-/// The date of a day number: whole years are taken off, then whole months.
-pub fn date_of(day: u32) -> Result<Date, NoDate> {
-    let mut left = day;
+/// The date of a day number.
+pub fn date_of(number: u32) -> Result<Date, NoDate> {
+    let mut left = number;
     for year in FIRST_YEAR..=LAST_YEAR {
         if left >= days_of_year(year) {
             left -= days_of_year(year);
@@ -86,7 +72,8 @@ pub fn date_of(day: u32) -> Result<Date, NoDate> {
     Err(NoDate::TooLate)
 }
 
-/// The n-th date after the anchor, and its day number.
+/// The n-th date after an anchor in steps of so many months, and its day number: the anchor's day, or the month's last one
+/// where that month is shorter.
 pub fn next_date(anchor: Date, step: u32, n: u32) -> Result<(Date, u32), NoDate> {
     if !is_date(anchor) {
         return Err(NoDate::BadDate);
@@ -97,12 +84,27 @@ pub fn next_date(anchor: Date, step: u32, n: u32) -> Result<(Date, u32), NoDate>
     if n == 0 {
         return Err(NoDate::BadCount);
     }
-    let months = u64::from(anchor.month - 1) + u64::from(step) * u64::from(n);
-    let year = u64::from(anchor.year) + months / 12;
-    if year > u64::from(LAST_YEAR) {
+    // Months from January 2000 on; the most there can be takes 39 bits.
+    let anchor_month = u64::from(anchor.year - FIRST_YEAR) * 12 + u64::from(anchor.month - 1);
+    let month = anchor_month + u64::from(step) * u64::from(n);
+    if month / 12 > u64::from(LAST_YEAR - FIRST_YEAR) {
         return Err(NoDate::TooLate);
     }
-    let (year, month) = (year as u32, (months % 12) as u32 + 1);
+    let (year, month) = (FIRST_YEAR + (month / 12) as u32, (month % 12) as u32 + 1);
     let date = Date { year, month, day: anchor.day.min(days_of_month(year, month)) };
     Ok((date, day_number(date)?))
+}
+
+fn days_of_year(year: u32) -> u32 {
+    (1..=12).map(|month| days_of_month(year, month)).sum()
+}
+
+fn days_of_month(year: u32, month: u32) -> u32 {
+    let leap_day = u32::from(month == 2 && is_leap_year(year));
+    MONTHS[month as usize - 1] + leap_day
+}
+
+/// Every fourth year; of the full hundreds only every fourth.
+fn is_leap_year(year: u32) -> bool {
+    year % 4 == 0 && (year % 100 != 0 || year % 400 == 0)
 }

@@ -1,7 +1,11 @@
 //! The six calls. Each checks in the order of the specification's table, then acts; a refusal moves no word.
+//!
+//! BAD BOOK comes first in that table, for the length, the counts, the homes and the parts that the call names. A number out
+//! of range names no part, so each call checks its numbers between the two.
 
-use crate::fit::{in_range, is_fit};
+use crate::fit::{counts_and_homes, counts_are_fit};
 use crate::layout::*;
+use crate::looks;
 use crate::order::above;
 use crate::Refusal;
 
@@ -24,11 +28,7 @@ pub fn setup(book: &mut [u32], depots: u32, shelves: u32, bearings: u32, crews: 
     if book.len() != WORDS {
         return Err(Refusal::BadBook);
     }
-    let counts_fit = in_range(depots, MOST_DEPOTS)
-        && in_range(shelves, MOST_SHELVES)
-        && in_range(bearings, MOST_BEARINGS)
-        && in_range(crews, MOST_CREWS);
-    if !counts_fit || homes.len() != crews as usize {
+    if !counts_are_fit([depots, shelves, bearings, crews]) || homes.len() != crews as usize {
         return Err(Refusal::BadCounts);
     }
     if homes.iter().any(|&home| home >= depots) {
@@ -45,6 +45,7 @@ pub fn read(book: &mut [u32], crew: u32, bearing: u32) -> Result<Reading, Refusa
     let n = counts(book)?;
     let crew = below(crew, n.crews, Refusal::BadCrew)?;
     let bearing = below(bearing, n.bearings, Refusal::BadKey)?;
+    fit(looks::read(book, n, crew, bearing))?;
 
     let depot = book[home(crew)] as usize;
     let offered = vector(book, n, crew_vector(crew));
@@ -65,6 +66,7 @@ pub fn write(book: &mut [u32], crew: u32, bearing: u32, value: u32) -> Result<Wr
     let n = counts(book)?;
     let crew = below(crew, n.crews, Refusal::BadCrew)?;
     let bearing = below(bearing, n.bearings, Refusal::BadKey)?;
+    fit(looks::write(book, n, crew, bearing))?;
     let depot = book[home(crew)] as usize;
     let shelf = bearing % n.shelves;
     let mine = vector(book, n, crew_vector(crew));
@@ -100,6 +102,7 @@ pub fn tick(book: &mut [u32], depot: u32, shelf: u32) -> Result<(), Refusal> {
     let n = counts(book)?;
     let depot = below(depot, n.depots, Refusal::BadDepot)?;
     let shelf = below(shelf, n.shelves, Refusal::BadShelf)?;
+    fit(looks::tick(book, n, depot, shelf))?;
     can_send(book, n, depot, shelf)?;
 
     let stamp = book[clock(depot, shelf)] + 1;
@@ -119,6 +122,7 @@ pub fn take(book: &mut [u32], depot: u32, shelf: u32, from: u32) -> Result<(), R
     if depot == from {
         return Err(Refusal::SameDepot);
     }
+    fit(looks::take(book, n, depot, shelf, from))?;
     let link = link(shelf, from, depot);
     let (held_now, taken_now) = (book[held(link)] as usize, book[taken(link)] as usize);
     if taken_now == held_now {
@@ -144,6 +148,7 @@ pub fn refresh(book: &mut [u32], depot: u32, shelf: u32) -> Result<(), Refusal> 
     let n = counts(book)?;
     let depot = below(depot, n.depots, Refusal::BadDepot)?;
     let shelf = below(shelf, n.shelves, Refusal::BadShelf)?;
+    fit(looks::refresh(book, n, depot, shelf))?;
 
     let mut lowest = [END; 4];
     for from in 0..n.depots {
@@ -155,10 +160,16 @@ pub fn refresh(book: &mut [u32], depot: u32, shelf: u32) -> Result<(), Refusal> 
     Ok(())
 }
 
-/// The counts of a fit book.
+/// The counts of a book whose length, counts and homes are fit.
 fn counts(book: &[u32]) -> Result<Counts, Refusal> {
-    if is_fit(book) {
-        Ok(Counts::of(book))
+    fit(counts_and_homes(book))?;
+    Ok(Counts::of(book))
+}
+
+/// BAD BOOK, unless it is fit.
+fn fit(is: bool) -> Result<(), Refusal> {
+    if is {
+        Ok(())
     } else {
         Err(Refusal::BadBook)
     }

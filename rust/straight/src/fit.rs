@@ -1,59 +1,84 @@
-//! Whether a book is fit, part by part as `docs/LAYOUT.md` lists them.
+//! What is fit, part by part, as `docs/LAYOUT.md` lists the parts. The whole book is fit if every part is.
 
 use crate::layout::*;
 
 /// Whether a book is fit. One of all zeros is not.
 pub fn is_fit(book: &[u32]) -> bool {
-    if book.len() != WORDS || !counts_are_fit(book) {
+    if !counts_and_homes(book) {
         return false;
     }
     let n = Counts::of(book);
-    (0..n.crews).all(|crew| crew_is_fit(book, n, crew))
+    (0..n.crews).all(|crew| crew_vector_is_fit(book, n, crew))
         && (0..n.depots).all(|depot| (0..n.shelves).all(|shelf| shelf_is_fit(book, n, depot, shelf)))
         && (0..n.shelves).all(|shelf| links_are_fit(book, n, shelf))
         && (0..n.depots).all(|depot| (0..n.bearings).all(|bearing| stored_is_fit(book, n, depot, bearing)))
 }
 
-fn counts_are_fit(book: &[u32]) -> bool {
-    in_range(book[0], MOST_DEPOTS)
-        && in_range(book[1], MOST_SHELVES)
-        && in_range(book[2], MOST_BEARINGS)
-        && in_range(book[3], MOST_CREWS)
+/// Whether that is fit which every call but setup asks for: the length, the counts and the homes of all crews.
+pub fn counts_and_homes(book: &[u32]) -> bool {
+    if book.len() != WORDS || !counts_are_fit([book[0], book[1], book[2], book[3]]) {
+        return false;
+    }
+    let n = Counts::of(book);
+    (0..n.crews).all(|crew| (book[home(crew)] as usize) < n.depots)
 }
 
-/// Whether a count is from 1 to its limit.
-pub(crate) fn in_range(count: u32, most: u32) -> bool {
-    1 <= count && count <= most
+/// Whether each count is from 1 to its limit.
+pub(crate) fn counts_are_fit(counts: [u32; 4]) -> bool {
+    let most = [MOST_DEPOTS, MOST_SHELVES, MOST_BEARINGS, MOST_CREWS];
+    (0..4).all(|which| 1 <= counts[which] && counts[which] <= most[which])
 }
 
-fn crew_is_fit(book: &[u32], n: Counts, crew: usize) -> bool {
-    (book[home(crew)] as usize) < n.depots && entries_are_fit(book, n, crew_vector(crew))
+pub(crate) fn crew_vector_is_fit(book: &[u32], n: Counts, crew: usize) -> bool {
+    entries_are_fit(book, n, crew_vector(crew))
 }
 
 fn shelf_is_fit(book: &[u32], n: Counts, depot: usize, shelf: usize) -> bool {
+    clock_is_fit(book, depot, shelf) && stable_is_fit(book, n, depot, shelf) && seen_are_fit(book, n, depot, shelf)
+}
+
+pub(crate) fn clock_is_fit(book: &[u32], depot: usize, shelf: usize) -> bool {
     book[clock(depot, shelf)] <= END
-        && entries_are_fit(book, n, stable(depot, shelf))
-        && book[stable(depot, shelf) + depot] == 0
-        && (0..n.depots).all(|from| from == depot || book[seen(depot, shelf, from)] <= END)
+}
+
+pub(crate) fn stable_is_fit(book: &[u32], n: Counts, depot: usize, shelf: usize) -> bool {
+    entries_are_fit(book, n, stable(depot, shelf)) && book[stable(depot, shelf) + depot] == 0
+}
+
+/// The stamps that a shelf has seen from all other depots.
+pub(crate) fn seen_are_fit(book: &[u32], n: Counts, depot: usize, shelf: usize) -> bool {
+    (0..n.depots).all(|from| from == depot || seen_is_fit(book, depot, shelf, from))
+}
+
+pub(crate) fn seen_is_fit(book: &[u32], depot: usize, shelf: usize, from: usize) -> bool {
+    book[seen(depot, shelf, from)] <= END
 }
 
 fn links_are_fit(book: &[u32], n: Counts, shelf: usize) -> bool {
     (0..n.depots).all(|from| (0..n.depots).all(|to| from == to || link_is_fit(book, n, shelf, from, to)))
 }
 
-fn link_is_fit(book: &[u32], n: Counts, shelf: usize, from: usize, to: usize) -> bool {
+/// A link's head and its messages.
+pub(crate) fn link_is_fit(book: &[u32], n: Counts, shelf: usize, from: usize, to: usize) -> bool {
+    if !head_is_fit(book, shelf, from, to) {
+        return false;
+    }
     let link = link(shelf, from, to);
-    let (held, taken) = (book[held(link)], book[taken(link)]);
-    held <= ROOM
-        && taken <= held
-        && (0..held as usize).all(|place| {
-            let message = &book[slot(link, place)..][..SLOT];
-            match message[0] {
-                COPY => copy_is_fit(&message[1..], n, shelf, from),
-                HEARTBEAT => place >= taken as usize && message[1] <= END,
-                _ => false,
-            }
-        })
+    let (held, taken) = (book[held(link)] as usize, book[taken(link)] as usize);
+    (0..held).all(|place| {
+        let message = &book[slot(link, place)..][..SLOT];
+        match message[0] {
+            COPY => copy_is_fit(&message[1..], n, shelf, from),
+            HEARTBEAT => place >= taken && message[1] <= END,
+            _ => false,
+        }
+    })
+}
+
+/// A link's two counts: at most 16 messages held, no more taken than held.
+pub(crate) fn head_is_fit(book: &[u32], shelf: usize, from: usize, to: usize) -> bool {
+    let link = link(shelf, from, to);
+    book[held(link)] <= ROOM && book[taken(link)] <= book[held(link)]
 }
 
 /// Whether the record of a copy fits the link's shelf and sender.
@@ -66,7 +91,7 @@ fn copy_is_fit(record: &[u32], n: Counts, shelf: usize, from: usize) -> bool {
         && record[VECTOR + from] > 0
 }
 
-fn stored_is_fit(book: &[u32], n: Counts, depot: usize, bearing: usize) -> bool {
+pub(crate) fn stored_is_fit(book: &[u32], n: Counts, depot: usize, bearing: usize) -> bool {
     let record = &book[stored(depot, bearing)..][..RECORD];
     let unwritten = record[VECTOR..][..n.depots].iter().all(|&entry| entry == 0);
     let origin = record[ORIGIN] as usize;

@@ -1,10 +1,10 @@
-//! The depot register, written a second time: plainly, from the specification and `docs/LAYOUT.md` alone
-//! (the calendar, and the order by sums, by hands that had read the proved ones).
+//! The depot register, written a second time: plainly, from the specification and `docs/LAYOUT.md` alone.
 //!
 //! It shares no line with the proved core. Where the two differ, one of them has misread the specification;
 //! `replay` looks for such a difference.
 //!
-//! A book is any `&mut [u32]`; a call on one of the wrong length answers [`Refusal::BadBook`].
+//! A book is any `&mut [u32]`; a call on one of the wrong length answers [`Refusal::BadBook`], and so does a call that looks at
+//! a part that is not fit. Whether the whole book is fit is a call of its own, [`is_fit`].
 //!
 //! ```
 //! use straight::{read, setup, write, Reading, Written, WORDS};
@@ -20,11 +20,12 @@ mod calls;
 mod desk;
 mod fit;
 pub mod layout;
+mod looks;
 mod order;
 
 pub use calls::{below, read, refresh, setup, take, tick, vector, write, Reading, Written};
 pub use desk::{desk, line, LONGEST_LINE};
-pub use fit::is_fit;
+pub use fit::{counts_and_homes, is_fit};
 pub use layout::{Counts, WORDS};
 pub use order::{above, greater};
 

@@ -1,7 +1,7 @@
 -- `named::arrival_fits` meets its contract: the link, then where its taken copies are stored.
 -- Assumes nothing.
 use Prim.Native.Nat.{ℕ, _≤_}
-use native.Mathlib.Nat.{le-trans, lt-of-lt-of-le}
+use native.Mathlib.Nat.{le-trans}
 use mathlib.Core.Path.{_∙_, sym}
 use denote.Ref.{now}
 use borrow.Author.Tests.{le-leb, lt-leb}
@@ -45,7 +45,8 @@ places-fit-requires c κs =
       start .pre .2,
       search needs,
       le-trans (at2 .if2 .left) (at2 .before .if1 .left),
-      λ i k. lt-of-lt-of-le (messages-bearings (start .args .n) (now (start .args .book)) _ _ _ _ _ (test-passed (c .before .messages-fit .ensures) (c .if3 .left)) i k) (w .bearings),
+      messages-bearings (start .args .n) (now (start .args .book)) _ _ _ _ _ (test-passed (c .before .messages-fit .ensures) (c .if3 .left)),
+      w .bearings,
     )
 
 returns-4 : tie.Need-returns-4

@@ -1,5 +1,6 @@
 -- `fit::named::place_fits` meets its contract: the bearing in the copy's record, and what is stored for it.
 -- Assumes nothing.
+use native.Mathlib.Nat.{lt-of-lt-of-le}
 use mathlib.Core.Path.{_≡_, _∙_, sym, ap, subst}
 use Prim.Native.Nat.{ℕ, _<_}
 use denote.Ref.{now}
@@ -16,12 +17,12 @@ told : (c : tie.After-wide) → let args = c .before .before .before .before .ar
 told c = let args = c .before .before .before .before .args in c .wide .ensures ∙ bearing-there (now (args .book)) (args .q .0) (args .i) (c .before .before .slot-at .ensures)
 
 nth-requires : tie.Need-nth-requires
-nth-requires c κs = let start = c .before .before .before .before in subst (λ (k : ℕ). k < 160) (sym (told c)) (start .pre .5)
+nth-requires c κs = let start = c .before .before .before .before in subst (λ (k : ℕ). k < start .args .n .bearings) (sym (told c)) (start .pre .5)
 
 stored-fits-requires : tie.Need-stored-fits-requires
 stored-fits-requires c κs =
     let start = c .before .before .before .before .before in
-    (start .pre .0, start .pre .1, start .pre .2, subst (λ (k : ℕ). k < 160) (sym (c .nth .ensures ∙ told (c .before))) (start .pre .5))
+    (start .pre .0, start .pre .1, start .pre .2, subst (λ (k : ℕ). k < 160) (sym (c .nth .ensures ∙ told (c .before))) (lt-of-lt-of-le (start .pre .5) (start .pre .6)))
 
 returns : tie.Need-returns
 returns c =

@@ -26,7 +26,7 @@ loop-holds c = (search needs, every-none _)
 place-fits-requires : tie.Need-place-fits-requires Inv-loop μ-loop
 place-fits-requires c κs =
     let start = c .before .before .before in
-    (start .pre .0, start .pre .1, start .pre .2, start .pre .3, search needs, start .pre .5 _ (c .loop-test .taken))
+    (start .pre .0, start .pre .1, start .pre .2, start .pre .3, search needs, start .pre .5 _ (c .loop-test .taken), start .pre .6)
 
 returns : tie.Need-returns Inv-loop μ-loop
 returns c = sym (every-stop _ _ _ (c .before .before .loop-test .taken) (test-failed (c .before .place-fits .ensures) (c .if1 .taken)))

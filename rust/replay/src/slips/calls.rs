@@ -1,6 +1,9 @@
 //! The calls, each with the places where a mistake can be switched on.
 
+use std::cmp::Ordering;
+
 use super::{Slip, Slipped};
+use crate::event::Event;
 use straight::layout::*;
 use straight::{below, vector, Counts, Reading, Refusal, Written};
 
@@ -24,8 +27,10 @@ impl Slipped {
     }
 
     pub(super) fn call_read(&self, book: &mut [u32], crew: u32, bearing: u32) -> Answer<Reading> {
-        let n = self.counts(book)?;
+        let event = Event::Read { crew, bearing };
+        let n = self.counts(book, &event)?;
         let (crew, bearing) = self.crew_and_bearing(book, n, crew, bearing)?;
+        self.look(book, n, &event)?;
         let depot = book[home(crew)] as usize;
         let record = stored(depot, bearing);
         let early = vector(book, n, record + VECTOR);
@@ -45,8 +50,12 @@ impl Slipped {
     }
 
     pub(super) fn call_write(&self, book: &mut [u32], crew: u32, bearing: u32, value: u32) -> Answer<Written> {
-        let n = self.counts(book)?;
+        let event = Event::Write { crew, bearing, value };
+        let n = self.counts(book, &event)?;
         let (crew, bearing) = self.crew_and_bearing(book, n, crew, bearing)?;
+        if !self.has(Slip::WaitFirst) {
+            self.look(book, n, &event)?;
+        }
         let depot = book[home(crew)] as usize;
         let shelf = bearing % n.shelves;
         let mine = vector(book, n, crew_vector(crew));
@@ -55,13 +64,16 @@ impl Slipped {
         if waits && !self.has(Slip::WaitAfterEnd) {
             return Err(Refusal::Wait);
         }
+        if self.has(Slip::WaitFirst) {
+            self.look(book, n, &event)?;
+        }
         self.can_send(book, n, depot, shelf, !self.has(Slip::WriteFindsFull))?;
         if waits {
             return Err(Refusal::Wait);
         }
 
         self.raise_and_show(book, n, depot, shelf, mine);
-        let stamp = if self.has(Slip::StampAsItStands) { now.max(1) } else { now + 1 };
+        let stamp = if self.has(Slip::StampAsItStands) { now.max(1) } else { now.wrapping_add(1) };
         let mut version = [0; RECORD];
         version[BEARING] = bearing as u32;
         version[VALUE] = value;
@@ -88,11 +100,23 @@ impl Slipped {
     }
 
     pub(super) fn call_tick(&self, book: &mut [u32], depot: u32, shelf: u32) -> Answer<()> {
-        let n = self.counts(book)?;
+        let event = Event::Tick { depot, shelf };
+        let n = self.counts(book, &event)?;
         let depot = below(depot, n.depots, Refusal::BadDepot)?;
         let shelf = below(shelf, n.shelves, Refusal::BadShelf)?;
+        if self.has(Slip::EndFirst) && book[clock(depot, shelf)] == END {
+            return Err(Refusal::ClockAtEnd);
+        }
+        let full = |to: usize| to != depot && book[held(link(shelf, depot, to))] == ROOM;
+        if self.has(Slip::FullFirst) && book[clock(depot, shelf)] < END && (0..n.depots).any(full) {
+            return Err(Refusal::LinkFull);
+        }
+        self.look(book, n, &event)?;
         self.can_send(book, n, depot, shelf, !self.has(Slip::TickFindsFull))?;
-        let stamp = book[clock(depot, shelf)] + 1;
+        if self.has(Slip::MendsMessages) {
+            self.mend_messages(book, n, depot, shelf);
+        }
+        let stamp = book[clock(depot, shelf)].wrapping_add(1);
         let mut message = [0; SLOT];
         message[0] = HEARTBEAT;
         message[1] = stamp;
@@ -100,7 +124,8 @@ impl Slipped {
     }
 
     pub(super) fn call_take(&self, book: &mut [u32], depot: u32, shelf: u32, from: u32) -> Answer<()> {
-        let n = self.counts(book)?;
+        let event = Event::Take { depot, shelf, from };
+        let n = self.counts(book, &event)?;
         if self.has(Slip::TakeShelfFirst) {
             below(shelf, n.shelves, Refusal::BadShelf)?;
         }
@@ -114,10 +139,19 @@ impl Slipped {
         }
         let shelf = below(shelf, n.shelves, Refusal::BadShelf)?;
         let link = link(shelf, from, depot);
+        let (held_now, taken_now) = self.head(book, link);
         if depot == from {
-            return Err(if self.has(Slip::TakeEmptyFirst) { Refusal::EmptyLink } else { Refusal::SameDepot });
+            let unfit = book[held(link)] > ROOM || book[seen(depot, shelf, depot)] > END;
+            return Err(match self.0 {
+                Slip::TakeEmptyFirst => Refusal::EmptyLink,
+                Slip::SameDepotNames if unfit => Refusal::BadBook,
+                _ => Refusal::SameDepot,
+            });
         }
-        let (held_now, taken_now) = (book[held(link)] as usize, book[taken(link)] as usize);
+        if self.has(Slip::EmptyFirst) && held_now == taken_now {
+            return Err(Refusal::EmptyLink);
+        }
+        self.look(book, n, &event)?;
         if taken_now >= held_now {
             return Err(Refusal::EmptyLink);
         }
@@ -131,20 +165,25 @@ impl Slipped {
             self.store(book, n, depot, message + 1);
         }
         if (copy && !self.has(Slip::AppliedOnArrival)) || (!copy && self.has(Slip::BeatStays)) {
-            book[taken(link)] += 1;
+            book[taken(link)] = taken_now as u32 + 1;
         } else {
             let end = slot(link, held_now);
             book.copy_within(message + SLOT..end, message);
             book[end - SLOT..end].fill(0);
-            book[held(link)] -= 1;
+            book[held(link)] = held_now as u32 - 1;
         }
         Ok(())
     }
 
     pub(super) fn call_refresh(&self, book: &mut [u32], depot: u32, shelf: u32) -> Answer<()> {
-        let n = self.counts(book)?;
+        let event = Event::Refresh { depot, shelf };
+        let n = self.counts(book, &event)?;
         let depot = below(depot, n.depots, Refusal::BadDepot)?;
         let shelf = below(shelf, n.shelves, Refusal::BadShelf)?;
+        self.look(book, n, &event)?;
+        if self.has(Slip::MendsClocks) {
+            book[clock(0, 0)..][..16].iter_mut().for_each(|clock| *clock = END.min(*clock));
+        }
         let mut lowest = [END; 4];
         for from in (0..n.depots).filter(|&from| from != depot) {
             for any in (0..n.shelves).filter(|&any| any == shelf || !self.has(Slip::OwnShelfOnly)) {
@@ -161,22 +200,18 @@ impl Slipped {
         Ok(())
     }
 
-    fn counts(&self, book: &[u32]) -> Answer<Counts> {
-        if self.fit(book) {
-            Ok(Counts::of(book))
-        } else {
-            Err(Refusal::BadBook)
-        }
-    }
-
     fn crew_and_bearing(&self, book: &[u32], n: Counts, crew: u32, bearing: u32) -> Answer<(usize, usize)> {
-        if self.has(Slip::HomeBeforeCrew) && book.get(4 + crew as usize).map_or(false, |&home| home as usize >= n.depots) {
+        if self.has(Slip::HomeBeforeCrew) && book.get(4 + crew as usize).is_some_and(|&home| home as usize >= n.depots) {
             return Err(Refusal::BadDepot);
         }
         if self.has(Slip::KeyFirst) {
             below(bearing, n.bearings, Refusal::BadKey)?;
         }
-        Ok((below(crew, n.crews, Refusal::BadCrew)?, below(bearing, n.bearings, Refusal::BadKey)?))
+        let crew = below(crew, n.crews, Refusal::BadCrew)?;
+        if self.has(Slip::KeyNamesCrew) && book[crew_vector(crew)..][..n.depots].iter().any(|&entry| entry > END) {
+            return Err(Refusal::BadBook);
+        }
+        Ok((crew, below(bearing, n.bearings, Refusal::BadKey)?))
     }
 
     fn raise_and_show(&self, book: &mut [u32], n: Counts, depot: usize, shelf: usize, offered: [u32; 4]) {
@@ -199,7 +234,7 @@ impl Slipped {
     }
 
     fn show(&self, book: &mut [u32], n: Counts, depot: usize, shelf: usize, link: usize) {
-        let (held_now, taken_now) = (book[held(link)] as usize, book[taken(link)] as usize);
+        let (held_now, taken_now) = self.head(book, link);
         let (mut kept, mut kept_taken) = (0, 0);
         let mut stopped = false;
         for place in 0..held_now {
@@ -229,9 +264,9 @@ impl Slipped {
         book[taken(link)] = kept_taken;
     }
 
-    /// A record goes to the depot's store if it is greater.
+    /// A record goes to the depot's store if it is greater. A slip may meet one of no bearing.
     fn store(&self, book: &mut [u32], n: Counts, depot: usize, record: usize) {
-        let there = stored(depot, book[record + BEARING] as usize);
+        let there = stored(depot, book[record + BEARING] as usize % n.bearings);
         let greater = self.above(&book[record..][..RECORD], &book[there..][..RECORD], n.depots);
         if greater || self.has(Slip::LatestCopyKept) {
             book.copy_within(record..record + RECORD, there);
@@ -241,25 +276,29 @@ impl Slipped {
         }
     }
 
+    /// Whether record `a` is greater than record `b`; both have nine words.
     pub(super) fn above(&self, a: &[u32], b: &[u32], depots: usize) -> bool {
         let depots = if self.has(Slip::PastDepots) { 4 } else { depots };
         let (left, right) = (&a[VECTOR..VECTOR + depots], &b[VECTOR..VECTOR + depots]);
-        let unwritten = left.iter().all(|&entry| entry == 0) && !self.has(Slip::UnwrittenOrigin);
-        let higher = match self.0 {
-            Slip::NoOrigin => false,
-            Slip::EqualReplaces => a[ORIGIN] >= b[ORIGIN],
-            _ => a[ORIGIN] > b[ORIGIN],
-        };
-        let sum = |entries: &[u32]| match self.0 {
+        let sum = |vector: &[u32]| match self.0 {
             Slip::NoSums => 0,
-            Slip::SumsWrap => entries.iter().fold(0, |sum: u32, &entry| sum.wrapping_add(entry)) as u64,
-            _ => entries.iter().fold(0, |sum, &entry| sum + entry as u64),
+            Slip::SumsWrap => u64::from(vector.iter().fold(0, |sum: u32, &entry| sum.wrapping_add(entry))),
+            _ => vector.iter().map(|&entry| u64::from(entry)).sum(),
         };
-        if sum(left) != sum(right) {
-            return sum(left) > sum(right);
+        let by_entry = match self.0 {
+            Slip::LastDepotFirst => left.iter().rev().cmp(right.iter().rev()),
+            _ => left.cmp(right),
+        };
+        match sum(left).cmp(&sum(right)).then(by_entry) {
+            Ordering::Less => false,
+            Ordering::Greater => true,
+            Ordering::Equal if left.iter().all(|&entry| entry == 0) && !self.has(Slip::UnwrittenOrigin) => false,
+            Ordering::Equal => match self.0 {
+                Slip::NoOrigin => false,
+                Slip::EqualReplaces => a[ORIGIN] >= b[ORIGIN],
+                _ => a[ORIGIN] > b[ORIGIN],
+            },
         }
-        let ahead = if self.has(Slip::LastDepotFirst) { left.iter().rev().gt(right.iter().rev()) } else { left > right };
-        ahead || (left == right && !unwritten && higher)
     }
 
     fn can_send(&self, book: &[u32], n: Counts, depot: usize, shelf: usize, room: bool) -> Answer<()> {
@@ -269,7 +308,7 @@ impl Slipped {
         }
         let full = |link: usize| {
             let taken = if self.has(Slip::TakenNoRoom) { book[taken(link)] } else { 0 };
-            book[held(link)] - taken >= ROOM
+            book[held(link)].saturating_sub(taken) == ROOM
         };
         if room && (0..n.depots).any(|to| to != depot && full(link(shelf, depot, to))) {
             return Err(Refusal::LinkFull);
@@ -288,9 +327,25 @@ impl Slipped {
                 return Err(Refusal::LinkFull);
             }
             let free = slot(link, book[held(link)] as usize);
-            book[free..free + SLOT].copy_from_slice(&message);
-            book[held(link)] += 1;
+            // A slip may meet any count.
+            if let Some(words) = book.get_mut(free..free + SLOT) {
+                words.copy_from_slice(&message);
+            }
+            book[held(link)] = book[held(link)].wrapping_add(1);
         }
         Ok(())
+    }
+
+    /// Messages of no kind on the links out become zeros.
+    fn mend_messages(&self, book: &mut [u32], n: Counts, depot: usize, shelf: usize) {
+        for to in (0..n.depots).filter(|&to| to != depot) {
+            let link = link(shelf, depot, to);
+            for place in 0..self.head(book, link).0 {
+                let message = &mut book[slot(link, place)..][..SLOT];
+                if message[0] != COPY && message[0] != HEARTBEAT {
+                    message.fill(0);
+                }
+            }
+        }
     }
 }

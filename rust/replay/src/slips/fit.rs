@@ -1,25 +1,68 @@
-//! Fitness, with the places where a mistake can be switched on.
+//! Fitness, piece by piece, with the places where a mistake can be switched on.
 
 use super::{Slip, Slipped};
+use crate::parts::{pieces, Piece};
 use straight::layout::*;
 use straight::Counts;
 
+const LIMITS: [u32; 4] = [MOST_DEPOTS, MOST_SHELVES, MOST_BEARINGS, MOST_CREWS];
+
 impl Slipped {
+    /// Whether the whole book is fit.
     pub(super) fn fit(&self, book: &[u32]) -> bool {
-        if book.len() != WORDS {
-            return false;
-        }
-        let limits = [MOST_DEPOTS, MOST_SHELVES, MOST_BEARINGS, MOST_CREWS];
-        if (0..4).any(|at| book[at] < 1 || book[at] > limits[at]) {
+        if book.len() != WORDS || !self.counts_fit(book, 4) || !self.homes_fit(book) {
             return false;
         }
         let n = Counts::of(book);
-        let homes = if self.has(Slip::FitAllHomes) { 16 } else { n.crews };
-        (0..homes).all(|crew| (book[home(crew)] as usize) < n.depots)
-            && (0..n.crews).all(|crew| self.entries(&book[crew_vector(crew)..], n))
-            && (0..n.depots).all(|depot| (0..n.shelves).all(|shelf| self.shelf(book, n, depot, shelf)))
-            && (0..n.shelves).all(|shelf| (0..n.depots).all(|from| (0..n.depots).all(|to| self.link(book, n, shelf, from, to))))
-            && (0..n.depots).all(|depot| (0..n.bearings).all(|bearing| self.stored(book, n, depot, bearing)))
+        let diagonal = |depot: usize, shelf: usize| book[held(link(shelf, depot, depot))] <= ROOM;
+        let diagonals = || (0..n.depots).all(|depot| (0..n.shelves).all(|shelf| diagonal(depot, shelf)));
+        pieces(n).into_iter().all(|piece| self.piece_fit(book, n, piece)) && (!self.has(Slip::FitDiagonal) || diagonals())
+    }
+
+    /// Whether the first so many counts are fit.
+    pub(super) fn counts_fit(&self, book: &[u32], counts: usize) -> bool {
+        (0..counts).all(|at| 1 <= book[at] && book[at] <= LIMITS[at])
+    }
+
+    pub(super) fn homes_fit(&self, book: &[u32]) -> bool {
+        let crews = if self.has(Slip::FitAllHomes) { MOST_CREWS } else { book[3].min(MOST_CREWS) };
+        (0..crews as usize).all(|crew| book[home(crew)] < book[0])
+    }
+
+    pub(super) fn piece_fit(&self, book: &[u32], n: Counts, piece: Piece) -> bool {
+        match piece {
+            Piece::CrewVector { crew } => self.entries(&book[crew_vector(crew)..], n),
+            Piece::Clock { depot, shelf } => book[clock(depot, shelf)] <= END,
+            Piece::Stable { depot, shelf } => {
+                let vector = &book[stable(depot, shelf)..];
+                self.entries(vector, n) && (vector[depot] == 0 || self.has(Slip::FitOwnStable))
+            }
+            Piece::Seen { depot, shelf, from } => {
+                let own = !self.has(Slip::FitOwnSeen) || self.stamp(book[seen(depot, shelf, depot)]);
+                self.stamp(book[seen(depot, shelf, from)]) && own
+            }
+            Piece::Head { shelf, from, to } => {
+                let (held, taken) = (book[held(link(shelf, from, to))], book[taken(link(shelf, from, to))]);
+                let most = if self.has(Slip::FitSeventeen) { ROOM + 1 } else { ROOM };
+                held <= most && (taken <= held || self.has(Slip::HeldOnly))
+            }
+            Piece::Messages { shelf, from, to } => {
+                let count = book[held(link(shelf, from, to))].min(ROOM + u32::from(self.has(Slip::FitSeventeen)));
+                (0..count as usize).all(|place| self.message_fit(book, n, shelf, from, to, place))
+            }
+            Piece::Stored { depot, bearing } => self.stored(book, n, depot, bearing),
+        }
+    }
+
+    pub(super) fn message_fit(&self, book: &[u32], n: Counts, shelf: usize, from: usize, to: usize, place: usize) -> bool {
+        let link = link(shelf, from, to);
+        let message = &book[slot(link, place)..][..SLOT];
+        let untaken = place >= book[taken(link)] as usize;
+        match message[0] {
+            COPY => self.copy(&message[1..], n, shelf, from),
+            HEARTBEAT => (untaken || self.has(Slip::FitTakenBeat)) && self.stamp(message[1]),
+            _ => false,
+        }
     }
 
     fn stamp(&self, stamp: u32) -> bool {
@@ -32,34 +75,6 @@ impl Slipped {
 
     fn entries(&self, vector: &[u32], n: Counts) -> bool {
         vector[..n.depots].iter().all(|&entry| self.stamp(entry))
-    }
-
-    fn shelf(&self, book: &[u32], n: Counts, depot: usize, shelf: usize) -> bool {
-        let own = book[stable(depot, shelf) + depot];
-        let looks = |x: usize| x != depot || self.has(Slip::FitOwnSeen);
-        book[clock(depot, shelf)] <= END
-            && self.entries(&book[stable(depot, shelf)..], n)
-            && (own == 0 || self.has(Slip::FitOwnStable))
-            && (0..n.depots).all(|x| !looks(x) || self.stamp(book[seen(depot, shelf, x)]))
-    }
-
-    fn link(&self, book: &[u32], n: Counts, shelf: usize, from: usize, to: usize) -> bool {
-        let link = link(shelf, from, to);
-        let (held, taken) = (book[held(link)], book[taken(link)]);
-        if from == to {
-            return held <= ROOM || !self.has(Slip::FitDiagonal);
-        }
-        let most = if self.has(Slip::FitSeventeen) { ROOM + 1 } else { ROOM };
-        held <= most
-            && taken <= held
-            && (0..held as usize).all(|place| {
-                let message = &book[slot(link, place)..][..SLOT];
-                match message[0] {
-                    COPY => self.copy(&message[1..], n, shelf, from),
-                    HEARTBEAT => (place >= taken as usize || self.has(Slip::FitTakenBeat)) && self.stamp(message[1]),
-                    _ => false,
-                }
-            })
     }
 
     fn copy(&self, record: &[u32], n: Counts, shelf: usize, from: usize) -> bool {

@@ -4,7 +4,11 @@
 mod calls;
 mod fit;
 mod lines;
+mod look;
 
+use std::fmt;
+
+use crate::parts::{looks, means, Call, Part, CALLS, PARTS};
 use crate::register::{number, read_answer, write_answer, Register};
 pub use lines::desk;
 
@@ -15,12 +19,41 @@ macro_rules! slips {
         pub enum Slip {
             /// No mistake: it has to agree with the straight version for ever.
             None,
+            /// A call leaves a part out of what it looks at first.
+            Without(Call, Part),
+            /// A call looks at a part too many.
+            With(Call, Part),
+            /// A call looks at the whole book.
+            Whole(Call),
             $($(#[doc = $doc])* $name,)*
         }
 
-        /// Every mistake.
-        pub const SLIPS: &[Slip] = &[$(Slip::$name),*];
+        /// The mistakes with a name of their own.
+        const NAMED: &[Slip] = &[$(Slip::$name),*];
     };
+}
+
+/// Every mistake: those with a name, and for each call and each part the part left out, or looked at without need.
+pub fn slips() -> Vec<Slip> {
+    let mut all = NAMED.to_vec();
+    for call in CALLS {
+        all.push(Slip::Whole(call));
+        for part in PARTS.into_iter().filter(|&part| means(call, part)) {
+            all.push(if looks(call, part) { Slip::Without(call, part) } else { Slip::With(call, part) });
+        }
+    }
+    all
+}
+
+impl fmt::Display for Slip {
+    fn fmt(&self, f: &mut fmt::Formatter<'_>) -> fmt::Result {
+        match self {
+            Slip::Without(call, part) => write!(f, "{:?}Without{:?}", call, part),
+            Slip::With(call, part) => write!(f, "{:?}With{:?}", call, part),
+            Slip::Whole(call) => write!(f, "{:?}Whole", call),
+            named => write!(f, "{:?}", named),
+        }
+    }
 }
 
 slips! {
@@ -138,6 +171,48 @@ slips! {
     FitUnwritten,
     /// Fit: a link of a depot to itself is looked at.
     FitDiagonal,
+    /// A tick looks at the counts of depots and shelves only.
+    TickOwnCounts,
+    /// Of the homes only that of the call's crew is looked at.
+    OwnHomeOnly,
+    /// The homes are looked at after the numbers.
+    HomesLate,
+    /// A number out of range: the whole book is looked at all the same.
+    WrongNumberWhole,
+    /// Read and write: the crew's vector is looked at before the bearing's number is checked.
+    KeyNamesCrew,
+    /// A take from the depot itself looks at the link from it to itself.
+    SameDepotNames,
+    /// Write: WAIT is noticed before the parts are looked at.
+    WaitFirst,
+    /// Tick: the clock's end is noticed before the parts are looked at.
+    EndFirst,
+    /// Tick: a full link is noticed before the parts are looked at.
+    FullFirst,
+    /// Take: an empty link is noticed before the parts are looked at.
+    EmptyFirst,
+    /// Tick and write: the heads of the links in are looked at, and not of those out.
+    HeadsOfOtherWay,
+    /// Take: the link in the other direction is looked at.
+    TakeOtherWay,
+    /// Raise and show: the links out are looked at, and not those in.
+    ShowOtherWay,
+    /// Take looks at the message that it takes, and at no other.
+    OneMessage,
+    /// Raise and show looks at the taken messages, and not at those behind them.
+    TakenOnly,
+    /// Raise and show looks at the stored versions of covered copies only.
+    CoveredOnly,
+    /// A head with more taken than held passes.
+    HeldOnly,
+    /// Refresh looks at the stamps seen on shelf 0, for all shelves.
+    SeenOfShelfZero,
+    /// Refresh looks at the own stamps seen too.
+    SeenOwnToo,
+    /// Refresh sets a clock that is not fit to the last number.
+    MendsClocks,
+    /// A tick clears a message that is not fit in front of its own.
+    MendsMessages,
     /// A line of 121 bytes passes.
     Line121,
     /// A line of 120 bytes is too long.

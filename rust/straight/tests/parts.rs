@@ -1,0 +1,162 @@
+//! BAD BOOK means the parts that a call names, and an unfit word elsewhere stays as it is.
+
+use straight::layout::*;
+use straight::{is_fit, read, refresh, setup, take, tick, write, Refusal, WORDS};
+
+/// No word of a book can be this, but a value or an unused one.
+const UNFIT: u32 = u32::MAX;
+
+type Call = fn(&mut [u32]) -> Result<(), Refusal>;
+
+const READ: Call = |book| read(book, 1, 2).map(|_| ());
+const WRITE: Call = |book| write(book, 1, 2, 9).map(|_| ());
+const TICK: Call = |book| tick(book, 1, 0);
+const TAKE: Call = |book| take(book, 1, 0, 0);
+const REFRESH: Call = |book| refresh(book, 1, 0);
+
+/// Three depots, two shelves. On the link of shelf 0 from depot 0 to 1: a taken copy of bearing 0 that is hidden, since bearing
+/// 1, which it rests on, is still on its way; an untaken copy of bearing 4; a heartbeat. All calls name depot 1 and shelf 0.
+fn busy() -> Vec<u32> {
+    let mut book = vec![0; WORDS];
+    setup(&mut book, 3, 2, 6, 3, &[0, 1, 2]).unwrap();
+    write(&mut book, 0, 1, 30).unwrap();
+    tick(&mut book, 0, 0).unwrap();
+    take(&mut book, 1, 0, 0).unwrap();
+    write(&mut book, 0, 0, 20).unwrap();
+    take(&mut book, 1, 0, 0).unwrap();
+    write(&mut book, 0, 4, 24).unwrap();
+    tick(&mut book, 0, 0).unwrap();
+    write(&mut book, 1, 2, 42).unwrap();
+    assert!(is_fit(&book));
+    let link = link(0, 0, 1);
+    assert_eq!(book[held(link)..][..2], [3, 1]);
+    book
+}
+
+/// The names of the calls that say BAD BOOK when one word is changed. The others answer as ever, and leave the word alone.
+fn bad_for(at: usize, word: u32) -> String {
+    let calls = [("read", READ), ("write", WRITE), ("tick", TICK), ("take", TAKE), ("refresh", REFRESH)];
+    let bad = calls.iter().filter(|(name, call)| {
+        let (mut plain, mut changed) = (busy(), busy());
+        changed[at] = word;
+        let before = changed.clone();
+        let expected = call(&mut plain);
+        assert_eq!(expected, Ok(()), "{}", name);
+        match call(&mut changed) {
+            Err(Refusal::BadBook) => {
+                assert!(changed == before, "{} is refused and moves a word", name);
+                true
+            }
+            answer => {
+                plain[at] = word;
+                assert_eq!(answer, expected, "{}", name);
+                assert!(plain == changed, "{} with word {} as {}", name, at, word);
+                false
+            }
+        }
+    });
+    bad.map(|(name, _)| *name).collect::<Vec<_>>().join(" ")
+}
+
+#[test]
+fn counts_and_homes() {
+    for at in 0..4 {
+        assert_eq!(bad_for(at, 0), "read write tick take refresh");
+        assert_eq!(bad_for(at, UNFIT), "read write tick take refresh");
+    }
+    for crew in 0..3 {
+        assert_eq!(bad_for(home(crew), 3), "read write tick take refresh");
+    }
+    assert_eq!(bad_for(home(3), UNFIT), "");
+}
+
+#[test]
+fn vectors_clocks_and_stamps() {
+    assert_eq!(bad_for(crew_vector(1) + 2, UNFIT), "read write");
+    assert_eq!(bad_for(crew_vector(1) + 3, UNFIT), "");
+    assert_eq!(bad_for(crew_vector(0), UNFIT), "");
+    assert_eq!(bad_for(clock(1, 0), UNFIT), "write tick");
+    assert_eq!(bad_for(clock(1, 1), UNFIT), "");
+    assert_eq!(bad_for(clock(0, 0), UNFIT), "");
+    assert_eq!(bad_for(stable(1, 0), UNFIT), "read write refresh");
+    assert_eq!(bad_for(stable(1, 0) + 1, 1), "read write refresh");
+    assert_eq!(bad_for(stable(1, 1), UNFIT), "");
+    assert_eq!(bad_for(seen(1, 0, 0), UNFIT), "take refresh");
+    assert_eq!(bad_for(seen(1, 0, 2), UNFIT), "refresh");
+    assert_eq!(bad_for(seen(1, 1, 0), UNFIT), "refresh");
+    assert_eq!(bad_for(seen(1, 0, 1), UNFIT), "");
+    assert_eq!(bad_for(seen(0, 0, 2), UNFIT), "");
+}
+
+#[test]
+fn links() {
+    let (from_0, from_2, to_0) = (link(0, 0, 1), link(0, 2, 1), link(0, 1, 0));
+    for (at, word) in [(held(from_0), 17), (taken(from_0), 4), (taken(from_0), UNFIT)] {
+        assert_eq!(bad_for(at, word), "read write take refresh");
+    }
+    for (at, word) in [(held(from_2), 17), (taken(from_2), 1)] {
+        assert_eq!(bad_for(at, word), "read write refresh");
+    }
+    for (at, word) in [(held(to_0), 17), (taken(to_0), 2), (taken(to_0), UNFIT)] {
+        assert_eq!(bad_for(at, word), "write tick");
+    }
+    assert_eq!(bad_for(held(link(1, 0, 1)), UNFIT), "", "the link of the other shelf");
+    assert_eq!(bad_for(held(link(0, 1, 1)), UNFIT), "", "the link of a depot to itself");
+    for place in 0..3 {
+        assert_eq!(bad_for(slot(from_0, place), 3), "read write take refresh");
+    }
+    assert_eq!(bad_for(slot(to_0, 0), 3), "", "a message on a link out");
+    assert_eq!(bad_for(slot(from_0, 1) + 1, 5), "read write take refresh", "a bearing of another shelf");
+    assert_eq!(bad_for(slot(from_0, 2) + 1, UNFIT), "read write take refresh", "the stamp of a heartbeat");
+    assert_eq!(bad_for(slot(from_0, 3), 3), "", "past the messages held");
+    assert_eq!(bad_for(slot(link(0, 2, 0), 0), 3), "");
+}
+
+#[test]
+fn stored_versions() {
+    for (bearing, calls) in [(0, "read write refresh"), (1, ""), (2, "read write"), (4, "")] {
+        assert_eq!(bad_for(stored(1, bearing) + VECTOR + 1, UNFIT), calls, "bearing {} at depot 1", bearing);
+        assert_eq!(bad_for(stored(2, bearing) + VECTOR + 1, UNFIT), "", "bearing {} at depot 2", bearing);
+    }
+}
+
+#[test]
+fn a_number_out_of_range_names_no_part() {
+    let mut book = busy();
+    // Everything but the counts and the homes.
+    book[7..].fill(UNFIT);
+    let before = book.clone();
+    assert_eq!(read(&mut book, 3, 0).map(|_| ()), Err(Refusal::BadCrew));
+    assert_eq!(read(&mut book, 0, 6).map(|_| ()), Err(Refusal::BadKey));
+    assert_eq!(write(&mut book, 3, 6, 0).map(|_| ()), Err(Refusal::BadCrew));
+    assert_eq!(write(&mut book, 0, 6, 0).map(|_| ()), Err(Refusal::BadKey));
+    assert_eq!(tick(&mut book, 3, 2), Err(Refusal::BadDepot));
+    assert_eq!(tick(&mut book, 0, 2), Err(Refusal::BadShelf));
+    assert_eq!(take(&mut book, 0, 2, 3), Err(Refusal::BadDepot));
+    assert_eq!(take(&mut book, 3, 2, 0), Err(Refusal::BadDepot));
+    assert_eq!(take(&mut book, 0, 2, 0), Err(Refusal::BadShelf));
+    assert_eq!(take(&mut book, 0, 0, 0), Err(Refusal::SameDepot));
+    assert_eq!(refresh(&mut book, 0, 2), Err(Refusal::BadShelf));
+    for call in [READ, WRITE, TICK, TAKE, REFRESH] {
+        assert_eq!(call(&mut book), Err(Refusal::BadBook));
+    }
+    book[home(2)] = 3;
+    assert_eq!(read(&mut book, 3, 0).map(|_| ()), Err(Refusal::BadBook), "the homes go first");
+    book[home(2)] = before[home(2)];
+    assert!(book == before);
+}
+
+#[test]
+fn bad_book_goes_before_the_refusals_of_a_state() {
+    let mut book = busy();
+    book[clock(1, 0)] = UNFIT;
+    assert_eq!(TICK(&mut book), Err(Refusal::BadBook), "and not the clock's end");
+    let mut book = busy();
+    book[crew_vector(1) + 1] = END;
+    assert_eq!(WRITE(&mut book), Err(Refusal::Wait));
+    book[stored(1, 0) + VECTOR] = UNFIT;
+    assert_eq!(WRITE(&mut book), Err(Refusal::BadBook), "and not WAIT");
+    let mut book = busy();
+    book[seen(0, 1, 1)] = UNFIT;
+    assert_eq!(take(&mut book, 0, 1, 1), Err(Refusal::BadBook), "and not EMPTY LINK");
+}
