@@ -1,12 +1,25 @@
 -- Demand 1 for books: after every history the book is fit, what a promise leaves open is one reply and one book, and a refused call moves nothing.
 -- Assumes nothing.
-use Prim.Native.Nat.{ℕ}
+use Prim.Native.Nat.{ℕ, _<_}
+use native.Mathlib.Omega.{arith}
 use mathlib.Core.Path.{_≡_, refl, sym, _∙_, ap}
+use mathlib.Core.Logic.{inr}
+use mathlib.Core.Bool.{true}
 use mathlib.Core.List.{List, [], _∷_}
 use lib.Dec.{eqb}
+use borrow.Author.Tests.{eq-eqb}
+use Rattle.loops.proofs.BoolLaws.{pick-true}
+use Rattle.order.proofs.VectorLaws.{length-merged, merged-other}
 use Rattle.book.specs.declared.parts.Counts.{Counts}
-use Rattle.book.specs.Layout.{home}
+use Rattle.book.specs.Layout.{storedAt, crewAt, countsOf, home, stored}
+use Rattle.fit.specs.Fit.{fit}
+use Rattle.shelf.proofs.FrameLaws.{part-off}
+use Rattle.register.specs.Answers.{tells}
+use Rattle.register.specs.Calls.{settledHome, readRecord, readBook}
+use Rattle.register.specs.Promises as promises
 use Rattle.register.specs.Table as table
+use Rattle.register.proofs.Numbers.{read-done}
+use Rattle.upkeep.specs.Requests.{call, found, numberAt, replyTo, changedBy, bookAfter}
 use Rattle.upkeep.proofs.NeverBadBook.{fit-number}
 use Rattle.upkeep.proofs.NeverBadAnswer.{settled, refused-stays}
 use Rattle.model.specs.Parts as model
@@ -19,6 +32,7 @@ use Rattle.bridge.specs.View.{toModel}
 use Rattle.bridge.specs.Systems.{ofBooks}
 use Rattle.bridge.specs.Demands.{Demand1}
 use Rattle.bridge.proofs.Basics.{pick-then, pick-ap, pick-same}
+use Rattle.bridge.proofs.Sound.{sound}
 use Rattle.bridge.proofs.Numbers.{step-state}
 use Rattle.bridge.proofs.Agrees.{sound-by, home-by}
 use Rattle.bridge.proofs.Followed.{followed}
@@ -45,6 +59,26 @@ module _ (π : model.Counts) where
       ∙ pick-same (eqb (refusal π σ q) 0) (σ .home)
       ∙ run-home homes h
 
+-- ---- the words of a read
+
+-- what is stored is no word of a crew's vector
+read-stores : (l : List ℕ) → fit l ≡ true → (c k : ℕ) → c < countsOf l .crews → stored (readBook l c k) (home l c) k ≡ readRecord l c k
+unfolding readBook readRecord
+read-stores l F c k kc =
+    let S = sound l F in
+    let a = S .small .depots in let b = S .small .crews in
+    let D = countsOf l .depots in
+    part-off _ (settledHome l c k) (storedAt (home l c) k) 9 (length-merged D D _ (crewAt c) (settledHome l c k))
+    λ j x y. merged-other D D _ (crewAt c) (settledHome l c k) j (inr (omega arith))
+
+read-tells : (l : List ℕ) → fit l ≡ true → (c k : ℕ) → numberAt l (call (read c k)) ≡ 0
+    → replyTo l (call (read c k)) ≡ found (tells (countsOf l .depots) (stored (bookAfter l (call (read c k))) (home l c) k))
+unfolding numberAt replyTo bookAfter changedBy promises.after
+read-tells l F c k e =
+    ap found (pick-true _ _ (eq-eqb _ 0 e))
+    ∙ ap (λ (r : List ℕ). found (tells (countsOf l .depots) r))
+    (sym (ap (λ (m : List ℕ). stored m (home l c) k) (pick-true _ _ (eq-eqb _ 0 e)) ∙ read-stores l F c k (read-done l c k e .crew)))
+
 -- ---- the demand
 
 pub book-demand1 : (l : List ℕ) (n : Counts) (homes : List ℕ) → table.setupNumber l n homes ≡ 0 → Demand1 n homes
@@ -59,6 +93,10 @@ book-demand1 l n homes done = record {
   taken-held = λ h s o d ks ko kd apart. sound-by (toModel n) _ _ (followed l n homes done h) .links s o d ks ko kd apart .order;
   never-bad = λ h r. fit-number (after (ofBooks n homes) h) (followed l n homes done h .fits) r;
   settled = λ h r a m c. settled c;
+  tells-stored = λ h c k e.
+      read-tells (after (ofBooks n homes) h) (followed l n homes done h .fits) c k e
+      ∙ ap (λ (m : Counts). found (tells (m .depots) (stored (after (ofBooks n homes) (read c k ∷ h)) (home (after (ofBooks n homes) h) c) k)))
+      (ap back (followed l n homes done h .counts));
   refused = λ h r e. refused-stays (after (ofBooks n homes) h) r e;
 }
   where

@@ -2,11 +2,12 @@
 -- Assumes nothing.
 use Prim.Native.Nat.{ℕ, zero, suc, _+_, _-_, _≤_, _<_}
 use native.Mathlib.Nat.{zero-add}
-use mathlib.Core.Path.{_≡_, refl, sym, _∙_, ap}
+use mathlib.Core.Path.{_≡_, refl, sym, _∙_, ap, fun-ext}
 use mathlib.Core.Logic.{_⊎_, inl, inr, ⊎-elim}
 use mathlib.Core.Bool.{Bool, true, false}
 use mathlib.Core.List.{List, [], _∷_, _++_, map}
-use borrow.Author.Tests.{lt-ltb, le-ltb}
+use lib.Dec.{ltb}
+use borrow.Author.Tests.{lt-ltb, le-ltb, ltb-true}
 use Rattle.loops.specs.Loops.{pick}
 use Rattle.order.specs.Vector.{Vec, covered, zeros}
 use Rattle.order.specs.Order.{above}
@@ -19,7 +20,8 @@ use Rattle.shelf.proofs.SlotLaws as slotted
 use Rattle.shelf.proofs.ShowLaws.{takenSlots, untakenSlots}
 use Rattle.model.specs.Parts.{Version, rank, unwritten, greater}
 use Rattle.model.specs.Rules.{clear}
-use Rattle.bridge.specs.View.{entriesAt, versionOf, writeOf, messageOf, listed, takenOn, untakenOn}
+use Rattle.bridge.specs.View.{entriesAt, versionOf, VersionKept, writeOf, messageOf, listed, takenOn, untakenOn}
+use Rattle.bridge.proofs.Basics.{pick-then}
 
 -- ---- a record
 
@@ -78,6 +80,32 @@ module _ (n : ℕ) where
   pub write-clear : (d : ℕ) (u v : Vec) (r : List ℕ) → ((x : ℕ) → x < n → u x ≡ v x) → clear n d u (writeOf n r) ≡ covered n d (vectorOf r) v
   unfolding clear writeOf
   write-clear d u v r e = covered-same n d _ _ _ _ (version-entry r) e
+
+  entries-same : (r s : List ℕ) → ((x : ℕ) → x < n → vectorOf r x ≡ vectorOf s x) → entriesAt n r 5 ≡ entriesAt n s 5
+  unfolding entriesAt
+  entries-same r s e = fun-ext λ x. pick-then (ltb x n) 0 (λ t. e x (ltb-true x n t))
+
+  pub version-kept : VersionKept n
+  version-kept = record {
+    told-apart = λ r s y e.
+        let z : zeros n (vectorOf s) ≡ false = sym (version-zeros s) ∙ ap (λ (v : Version). zeros n (v .vector)) (sym e) ∙ version-zeros r ∙ y in
+        let f = sym (version-written r y) ∙ e ∙ version-written s z in
+        record {
+          value = ap (λ (v : Version). v .value) f;
+          origin = ap (λ (v : Version). v .origin) f;
+          entries = λ x k. sym (version-entry r x k) ∙ ap (λ (v : Version). v .vector x) e ∙ version-entry s x k;
+        };
+    the-same = λ r s e.
+        let zeros-too : zeros n (vectorOf r) ≡ zeros n (vectorOf s) = zeros-same n _ _ (e .entries) in
+        ⊎-elim
+        (λ (z : zeros n (vectorOf r) ≡ true). version-unwritten r z ∙ sym (version-unwritten s (sym zeros-too ∙ z)))
+        (λ (z : zeros n (vectorOf r) ≡ false).
+        version-written r z
+        ∙ (λ i. record { value = e .value i; origin = e .origin i; vector = entries-same r s (e .entries) i })
+        ∙ sym (version-written s (sym zeros-too ∙ z)))
+        (decided (zeros n (vectorOf r)));
+    compares = version-above;
+  }
 
 -- ---- a link
 

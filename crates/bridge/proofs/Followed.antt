@@ -104,10 +104,11 @@ module _ (l₀ : List ℕ) (n : book.Counts) (homes : List ℕ) (done : table.se
     makes-to = λ q c w p m. (m .0, m .1, m .2 ∙ made-by π σ l A c (w .bearing) (m .0) (by-write σ q c _ _ (m .1) p .0));
     makes-from = λ q c w p m. (m .0, m .1, m .2 ∙ sym (made-by π σ l A c (w .bearing) (m .0) (by-write σ q c _ _ (m .1) p .0)));
     gets-to = λ q c k v p g. let a = by-read σ q c k (g .0) p in (g .0, g .1 ∙ answered-by π σ l A c k (a .0) (a .1));
+    gets-from = λ q c k v p g. let a = by-read σ q c k (g .0) p in (g .0, g .1 ∙ sym (answered-by π σ l A c k (a .0) (a .1)));
     reads = λ q c k v p g. by-read σ q c k (g .0) p;
     writes = λ q c w p m.
         let a = by-write σ q c _ _ (m .1) p in
-        (a .1, subst (λ (v : Version). v .origin < π .depots) (sym (m .2)) (housed π σ l A c (a .0)));
+        (a .0, a .1, subst (λ (v : Version). v .origin < π .depots) (sym (m .2)) (housed π σ l A c (a .0)));
     waits = λ c k value. waits-crew π σ c k value;
     housed = housed π σ l A;
   }

@@ -38,7 +38,7 @@ the-demands l n homes done =
     let follows = book-follows l n homes done in
     record {
       first = book-demand1 l n homes done;
-      as-model = record { answers = λ h q. transfer.alike follows h .answer q; leaves = λ h. followed l n homes done h .views };
+      as-model = record { numbers = λ h q. transfer.alike follows h .number q; answers = λ h q. transfer.alike follows h .answer q; leaves = λ h. followed l n homes done h .views };
       desk = desk-as-model l n homes done;
       others = transfer.demands-from follows (sound-by (toModel n) _ _ (agrees-start l n homes done) .small .shelf) (met.the-demands (toModel n) homes (setup-model (setup-open l n homes done)));
     }

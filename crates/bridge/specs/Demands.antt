@@ -5,19 +5,20 @@ use mathlib.Core.Path.{_≡_}
 use mathlib.Core.Bool.{true}
 use mathlib.Core.List.{List, [], _∷_, _++_}
 use Rattle.book.specs.declared.parts.Counts.{Counts}
-use Rattle.book.specs.Layout.{countsOf, home, linkOf, held, taken}
+use Rattle.book.specs.Layout.{countsOf, home, linkOf, held, taken, stored}
 use Rattle.fit.specs.Fit.{fit}
+use Rattle.register.specs.Answers.{tells}
 use Rattle.register.specs.Calls.{setUp}
-use Rattle.paper.specs.Calls.{Call}
+use Rattle.paper.specs.Calls.{Call, read}
 use Rattle.paper.specs.declared.request.Event.{Event}
 use Rattle.line.specs.Reading.{good, reading}
 use Rattle.events.specs.Answering as events
 use Rattle.events.specs.Answering.{lineFeed, requestOf, printed, answerTo}
-use Rattle.model.specs.Calls.{step}
+use Rattle.model.specs.Calls.{refusal, step}
 use Rattle.model.specs.System.{after, ofModel}
 use Rattle.model.specs.Demands as demands
 use Rattle.bridge.specs.View.{toModel, view}
-use Rattle.upkeep.specs.Requests.{Request, call, Reply, Called, numberAt, replyTo, bookAfter}
+use Rattle.upkeep.specs.Requests.{Request, call, Reply, found, Called, numberAt, replyTo, bookAfter}
 use Rattle.bridge.specs.Systems.{ofBooks}
 
 module _ (n : Counts) (homes : List ℕ) where
@@ -37,11 +38,15 @@ module _ (n : Counts) (homes : List ℕ) where
     pub never-bad : (h : List Call) (r : Request) → numberAt (bookOf h) r ≡ 1 → ⊥
     -- what a promise leaves open is one reply and one book
     pub settled : (h : List Call) (r : Request) (a : Reply) (l : List ℕ) → Called (bookOf h) l r a → (a ≡ replyTo (bookOf h) r) × (l ≡ bookAfter (bookOf h) r)
+    -- a read that is done tells of the record that its home shelf then stores, word for word
+    pub tells-stored : (h : List Call) (c k : ℕ) → numberAt (bookOf h) (call (read c k)) ≡ 0
+        → replyTo (bookOf h) (call (read c k)) ≡ found (tells (n .depots) (stored (bookOf (read c k ∷ h)) (home (bookOf h) c) k))
     -- a refused request moves not one word
     pub refused : (h : List Call) (r : Request) → (numberAt (bookOf h) r ≡ 0 → ⊥) → bookAfter (bookOf h) r ≡ bookOf h
 
   -- demand 2, its first sentence: each call answers as the model does, and leaves a book whose view is the state that the model is in
   pub record AsModel : Type 0 where
+    pub numbers : (h : List Call) (q : Call) → numberAt (bookOf h) (call q) ≡ refusal (toModel n) (after (ofModel (toModel n) homes) h) q
     pub answers : (h : List Call) (q : Call) → ofBooks n homes .answer (bookOf h) q ≡ step (toModel n) (after (ofModel (toModel n) homes) h) q .answer
     pub leaves : (h : List Call) → view (bookOf h) ≡ after (ofModel (toModel n) homes) h
 

@@ -1,17 +1,19 @@
 -- The view of a book as a state of the model: what docs/LAYOUT.md says of each word, told in the model's terms. Every place that may hold anything
 -- in a fit book is looked at only where the counts say that it is in use.
 -- Assumes nothing.
-use Prim.Native.Nat.{ℕ, zero, suc, _+_, _-_, _%_}
-use mathlib.Core.Bool.{_&&_}
+use Prim.Native.Nat.{ℕ, zero, suc, _+_, _-_, _%_, _<_}
+use mathlib.Core.Path.{_≡_}
+use mathlib.Core.Bool.{false, _&&_}
 use mathlib.Core.List.{List, [], _∷_, _++_}
 use lib.Dec.{eqb, ltb}
 use lib.ListN.{getD}
 use Rattle.loops.specs.Loops.{pick}
 use Rattle.order.specs.Vector.{Vec, zeros}
-use Rattle.order.specs.Record.{bearingOf, valueOf, originOf, vectorOf}
+use Rattle.order.specs.Order.{above}
+use Rattle.order.specs.Record.{bearingOf, valueOf, originOf, vectorOf, rankOf}
 use Rattle.book.specs.declared.parts.Counts as book
 use Rattle.book.specs.Layout.{crewAt, stableAt, linkOf, home, clock, seen, held, taken, slot, stored, beatKind, kindOf, beatOf, recordOf}
-use Rattle.model.specs.Parts.{Counts, Version, Write, Message, copy, heartbeat, Shelf, State, other, unwritten, emptyShelf}
+use Rattle.model.specs.Parts.{Counts, Version, Write, Message, copy, heartbeat, Shelf, State, rank, other, unwritten, emptyShelf}
 
 -- the counts that a setup asks for, as the model has them
 abbrev pub toModel : book.Counts → Counts
@@ -28,6 +30,18 @@ entriesAt n l a x = pick (ltb x n) (getD l (a + x) 0) 0
 -- the version that the record r is, with n depots: with the zero vector it is unwritten
 unfoldable pub versionOf : ℕ → List ℕ → Version
 versionOf n r = pick (zeros n (vectorOf r)) unwritten (record { value = valueOf r; origin = originOf r; vector = entriesAt n r 5 })
+
+-- two records hold the same version: value, origin and the n entries
+pub record SameVersion (n : ℕ) (r s : List ℕ) : Type 0 where
+  pub value : valueOf r ≡ valueOf s
+  pub origin : originOf r ≡ originOf s
+  pub entries : (x : ℕ) → x < n → vectorOf r x ≡ vectorOf s x
+
+-- nothing of a record is lost: one that is written is told from every other, and versions compare as their records do
+pub record VersionKept (n : ℕ) : Type 0 where
+  pub told-apart : (r s : List ℕ) → zeros n (vectorOf r) ≡ false → versionOf n r ≡ versionOf n s → SameVersion n r s
+  pub the-same : (r s : List ℕ) → SameVersion n r s → versionOf n r ≡ versionOf n s
+  pub compares : (r s : List ℕ) → above n (rank (versionOf n r)) (rank (versionOf n s)) ≡ above n (rankOf r) (rankOf s)
 
 unfoldable pub writeOf : ℕ → List ℕ → Write
 writeOf n r = record { bearing = bearingOf r; version = versionOf n r }

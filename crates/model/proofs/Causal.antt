@@ -19,10 +19,10 @@ use Rattle.paper.specs.Calls.{Call, read, write}
 use Rattle.model.specs.Calls.{shelfOf, homeShelf, answered, made, refusal, reading, acted}
 use Rattle.model.specs.System.{ofModel, run}
 use Rattle.model.specs.Demands.{Wrote, Got, MadeAt, now, earlier, Made, Past, wrote, got, kept, under}
-use Rattle.model.proofs.Places.{put-all, put-same}
+use Rattle.model.proofs.Places.{put-all, put-same, Other}
 use Rattle.model.proofs.Showing.{AtMost, atMost-trans}
 use Rattle.model.proofs.Chains.{chain-member}
-use Rattle.model.proofs.Invariant.{Rests, Stands, stored, held, coming, Sound}
+use Rattle.model.proofs.Invariant.{Stands, stored, held, coming, unwritten-zeros}
 use Rattle.model.proofs.Settling.{raised-offered, settled-rises, settled-has}
 use Rattle.model.proofs.Refusals.{read-passed, write-passed, SetUp, shelf-below}
 use Rattle.model.proofs.Steps.{answered-made}
@@ -83,13 +83,13 @@ module _ (π : Counts) (homes : List ℕ) where
     pub past-below : {h : List Call} {c : ℕ} {w : Write} → Past π (ofModel π homes) h c w → (x : ℕ) → w .version .vector x ≤ run π homes h .crew c x
     past-below (wrote t) x = wrote-below t x
     past-below (got t z) x = got-below t x
-    past-below (kept {h = h} {q = q} {c = c} p) x = le-trans (past-below p x) (call-changes π homes u h q .grows .crew c x)
+    past-below (kept p) x = le-trans (past-below p x) (call-changes π homes u _ _ .grows .crew _ x)
     past-below (under p m r) x = le-trans (past-below r x) (le-trans (made-above m x) (past-below p x))
 
     -- what a crew read was made
     got-made : {h : List Call} {q : Call} {c : ℕ} {w : Write} → Got (ofModel π homes) h q c (w .bearing) (w .version) → zeros (π .depots) (w .version .vector) ≡ false → Made (ofModel π homes) h w
     got-made {h} {q} {c} {w} t z = ⊎-elim
-        (λ a. absurd (both-ways (subst (λ (v : Version). zeros (π .depots) (v .vector) ≡ true) (sym (t .gets .1)) a) z))
+        (λ a. absurd (both-ways (unwritten-zeros (π .depots) (t .gets .1 ∙ a)) z))
         (λ m. subst (λ (v : Version). Made (ofModel π homes) h (record { bearing = w .bearing; version = v })) (sym (t .gets .1)) m)
         (answered-made π (Made (ofModel π homes) h) (run π homes h) (inv π homes u h .sound) (shelf-below π u) c (w .bearing)
         (read-passed π _ c (w .bearing) (subst (λ y. refusal π (run π homes h) y ≡ 0) (t .gets .0) (t .passed)) .crew))
@@ -108,32 +108,30 @@ module _ (π : Counts) (homes : List ℕ) where
         (inv π homes u h .good v (record { before = g; author = b; at = m }) .rests .depot)
         (let a = past-below p (v .version .origin) in let s = made-strict m in omega arith)
 
-    pub causal : {h : List Call} {c : ℕ} {w : Write} → Past π (ofModel π homes) h c w → refusal π (run π homes h) (read c (w .bearing)) ≡ 0 → AtMost (π .depots) (w .version)
-        (answered π c (w .bearing) (run π homes h))
-    unfolding answered homeShelf
-    causal {h} {c} {w} p e = by (inv π homes u h .good w (past-made p) .stands d (rests .depot))
+    -- at a depot d whose shelves have seen the vector v, a shelf raised with v and shown stores every write that v covers, or a greater one
+    pub offered-has : (h : List Call) (w : Write) → Made (ofModel π homes) h w → (d : ℕ) (v : Vec) → d < π .depots
+        → ((r x : ℕ) → r < π .shelves → Other (π .depots) d x → v x ≤ run π homes h .shelf d r .seen x)
+        → ((x : ℕ) → Other (π .depots) d x → w .version .vector x ≤ v x)
+        → AtMost (π .depots) (w .version) (settled (π .depots) d v (run π homes h .shelf d (shelfOf π (w .bearing))) .store (w .bearing))
+    offered-has h w m d v hd seen below = by (inv π homes u h .good w m .stands d hd)
       where
-        σ : State
-        σ = run π homes h
-
-        d : ℕ
-        d = σ .home c
-
         s : ℕ
         s = shelfOf π (w .bearing)
 
-        z : Sound π (Made (ofModel π homes) h) σ
-        z = inv π homes u h .sound
-
-        rests : Rests π σ d (σ .crew c)
-        rests = z .crews c (read-passed π σ c (w .bearing) e .crew)
-
-        by : Stands π σ w d → AtMost (π .depots) (w .version) (settled (π .depots) d (σ .crew c) (σ .shelf d s) .store (w .bearing))
-        by (stored t) = atMost-trans t (settled-rises (π .depots) d (σ .crew c) (σ .shelf d s) (w .bearing))
-        by (held o m) = settled-has (π .depots) d (σ .crew c) (σ .shelf d s) (w .version .origin) (o .below) m
-            (unfold clear in covered-intro (π .depots) d _ _ (λ x hx apart. le-trans (past-below p x) (raised-offered (π .depots) d (σ .crew c) _ x (record { below = hx; apart = apart }))))
+        by : Stands π (run π homes h) w d → AtMost (π .depots) (w .version) (settled (π .depots) d v (run π homes h .shelf d s) .store (w .bearing))
+        by (stored t) = atMost-trans t (settled-rises (π .depots) d v (run π homes h .shelf d s) (w .bearing))
+        by (held o m) = settled-has (π .depots) d v (run π homes h .shelf d s) (w .version .origin) (o .below) m
+            (unfold clear in covered-intro (π .depots) d _ _ (λ x hx apart.
+            let t : Other (π .depots) d x = record { below = hx; apart = apart } in le-trans (below x t) (raised-offered (π .depots) d v _ x t)))
         by (coming o m) = absurd (unfold stampOf in
-            let a = chain-member _ _ _ (z .chain d s (w .version .origin) (rests .depot) (shelf-below π u (w .bearing)) o) m in
-            let b = past-below p (w .version .origin) in
-            let f = rests .seen s (w .version .origin) (shelf-below π u (w .bearing)) o in
+            let a = chain-member _ _ _ (inv π homes u h .sound .chain d s (w .version .origin) hd (shelf-below π u (w .bearing)) o) m in
+            let b = below (w .version .origin) o in
+            let f = seen s (w .version .origin) (shelf-below π u (w .bearing)) o in
             omega arith)
+
+    pub causal : {h : List Call} {c : ℕ} {w : Write} → Past π (ofModel π homes) h c w → refusal π (run π homes h) (read c (w .bearing)) ≡ 0 → AtMost (π .depots) (w .version)
+        (answered π c (w .bearing) (run π homes h))
+    unfolding answered homeShelf
+    causal {h} {c} {w} p e =
+        let rests = inv π homes u h .sound .crews c (read-passed π (run π homes h) c (w .bearing) e .crew) in
+        offered-has h w (past-made p) (run π homes h .home c) (run π homes h .crew c) (rests .depot) (rests .seen) (λ x o. past-below p x)

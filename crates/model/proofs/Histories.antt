@@ -7,9 +7,8 @@ use mathlib.Core.Logic.{_⊎_, inl, inr, ⊎-elim}
 use mathlib.Core.List.{List, [], _∷_, _++_, List·Memᴰ·not-nil}
 use borrow.Author.Tests.{eq-eqb, ne-eqb}
 use Rattle.loops.proofs.BoolLaws.{eq-or-ne, pick-true, pick-false}
-use Rattle.order.proofs.VectorLaws.{zeros-intro}
 use Rattle.model.specs.Parts.{Counts, Write, State, fresh, emptyShelf, unwritten}
-use Rattle.paper.specs.Calls.{Call, read, write, tick, take, refresh}
+use Rattle.paper.specs.Calls.{Call, read, write, tick, take, refresh, refused}
 use Rattle.model.specs.Calls.{Outcome, made, refusal, acted, step}
 use Rattle.model.specs.System.{ofModel, after, run}
 use Rattle.model.specs.Demands.{Wrote, MadeAt, now, earlier, Made}
@@ -22,9 +21,9 @@ pub step-done : (π : Counts) (σ : State) (q : Call) → refusal π σ q ≡ 0 
 unfolding step
 step-done π σ q e = pick-true _ _ (eq-eqb (refusal π σ q) 0 e)
 
-pub step-refused : (π : Counts) (σ : State) (q : Call) → (refusal π σ q ≡ 0 → ⊥) → step π σ q .state ≡ σ
+pub step-refused : (π : Counts) (σ : State) (q : Call) → (refusal π σ q ≡ 0 → ⊥) → step π σ q ≡ record { answer = refused (refusal π σ q); state = σ }
 unfolding step
-step-refused π σ q e = ap (λ (o : Outcome). o .state) (pick-false _ _ (ne-eqb (refusal π σ q) 0 e))
+step-refused π σ q e = pick-false _ _ (ne-eqb (refusal π σ q) 0 e)
 
 module _ (π : Counts) (homes : List ℕ) where
   pub run-done : (h : List Call) (q : Call) → refusal π (run π homes h) q ≡ 0 → run π homes (q ∷ h) ≡ acted π (run π homes h) q .state
@@ -33,7 +32,7 @@ module _ (π : Counts) (homes : List ℕ) where
 
   pub run-refused : (h : List Call) (q : Call) → (refusal π (run π homes h) q ≡ 0 → ⊥) → run π homes (q ∷ h) ≡ run π homes h
   unfolding after
-  run-refused h q e = step-refused π (run π homes h) q e
+  run-refused h q e = ap (λ (o : Outcome). o .state) (step-refused π (run π homes h) q e)
 
   pub made-more : {h : List Call} {q : Call} (w : Write) → Made (ofModel π homes) h w → Made (ofModel π homes) (q ∷ h) w
   made-more w m = record { before = m .before; author = m .author; at = earlier (m .at) }
@@ -114,7 +113,7 @@ module _ (π : Counts) (homes : List ℕ) where
       sound = record {
         shelf = λ d s hd hs. record {
           covers = λ k x o. omega arith;
-          stores = λ k. inl (zeros-intro (π .depots) _ (λ x hx. refl));
+          stores = λ k. inl refl;
           taken = λ o w o′ m. absurd (List·Memᴰ·not-nil m);
           untaken = λ o w o′ m. absurd (List·Memᴰ·not-nil m);
           top = omega arith;

@@ -1,17 +1,23 @@
 -- What holds of every state that a history leaves. M says which writes were made.
 -- Assumes nothing.
 use Prim.Native.Nat.{ℕ, _≤_, _<_}
+use native.Mathlib.Omega.{arith}
 use native.Mathlib.Nat.{le-refl, le-trans}
-use mathlib.Core.Path.{_≡_}
-use mathlib.Core.Logic.{_⊎_, inl, inr}
+use mathlib.Core.Path.{_≡_, refl, sym, subst}
+use mathlib.Core.Logic.{_⊎_, inl, inr, ⊎-elim}
 use mathlib.Core.Bool.{true}
 use mathlib.Core.List.{List·Memᴰ}
-use Rattle.order.specs.Vector.{Vec, zeros}
-use Rattle.model.specs.Parts.{Counts, Write, copy, Shelf, State, stamp, end}
+use Rattle.order.specs.Vector.{Vec, merged, zeros}
+use Rattle.order.proofs.VectorLaws.{zeros-intro}
+use Rattle.model.specs.Parts.{Counts, Version, Write, copy, Shelf, State, stamp, unwritten, end}
 use Rattle.model.specs.Calls.{shelfOf}
 use Rattle.model.proofs.Places.{Other}
 use Rattle.model.proofs.Showing.{AtMost, atMost-refl, atMost-trans}
 use Rattle.model.proofs.Chains.{Chain}
+
+pub unwritten-zeros : (n : ℕ) {v : Version} → v ≡ unwritten → zeros n (v .vector) ≡ true
+unfolding unwritten
+unwritten-zeros n e = subst (λ (v : Version). zeros n (v .vector) ≡ true) (sym e) (zeros-intro n _ (λ x hx. refl))
 
 module _ (π : Counts) where
   -- the vector u rests on what depot d has seen: each other-depot entry was seen on every shelf, and entries are in range
@@ -50,7 +56,7 @@ module _ (π : Counts) where
     -- shelf s of depot d by itself
     pub record ShelfSound (d s : ℕ) (h : Shelf) : Type 0 where
       pub covers : (k x : ℕ) → Other (π .depots) d x → h .store k .vector x ≤ h .stable x
-      pub stores : (k : ℕ) → (zeros (π .depots) (h .store k .vector) ≡ true) ⊎ M (record { bearing = k; version = h .store k })
+      pub stores : (k : ℕ) → (h .store k ≡ unwritten) ⊎ M (record { bearing = k; version = h .store k })
       pub taken : (o : ℕ) (w : Write) → o < π .depots → List·Memᴰ w (h .taken o) → Copied s o w
       pub untaken : (o : ℕ) (w : Write) → Other (π .depots) d o → List·Memᴰ (copy w) (h .untaken o) → Copied s o w
       pub top : h .clock ≤ end
@@ -90,6 +96,25 @@ module _ (π : Counts) where
     rests = rests-grows (c .grows) (g .rests);
     clock = le-trans (g .clock) (c .grows .clock _ _);
     stands = λ d h. c .stands w d h (g .stands d h);
+  }
+
+  -- what a shelf stores rests on what its depot has seen
+  pub stored-rests : {M : Write → Type 0} {σ : State} {d s : ℕ} → Sound M σ → ((w : Write) → M w → Good σ w) → d < π .depots → s < π .shelves → (k : ℕ)
+      → Rests σ d (σ .shelf d s .store k .vector)
+  unfolding unwritten
+  stored-rests {d = d} {s = s} z good hd hs k = record {
+    depot = hd;
+    seen = λ r x hr o. le-trans (z .shelf d s hd hs .covers k x o) (z .stable d s r x hd hs hr o);
+    top = λ x hx. ⊎-elim (λ e. subst (λ (v : Version). v .vector x ≤ end) (sym e) (omega arith)) (λ m. good _ m .rests .top x hx)
+        (z .shelf d s hd hs .stores k);
+  }
+
+  pub merged-rests : {σ : State} {d : ℕ} {u v : Vec} → Rests σ d u → Rests σ d v → Rests σ d (merged u v)
+  unfolding merged
+  merged-rests a b = record {
+    depot = a .depot;
+    seen = λ r x hr o. let p = a .seen r x hr o in let q = b .seen r x hr o in omega arith;
+    top = λ x hx. let p = a .top x hx in let q = b .top x hx in omega arith;
   }
 
   -- one change after another

@@ -5,10 +5,9 @@ use native.Mathlib.Omega.{arith}
 use native.Mathlib.Nat.{le-refl, le-trans}
 use mathlib.Core.Path.{_≡_, refl, sym, subst, subst₃}
 use mathlib.Core.Logic.{_⊎_, inr}
-use mathlib.Core.Bool.{true}
 use mathlib.Core.List.{List, List·Memᴰ}
-use Rattle.order.specs.Vector.{Vec, zeros}
-use Rattle.model.specs.Parts.{Counts, Write, Message, copy, Shelf, State, setShelf, setCrew}
+use Rattle.order.specs.Vector.{Vec}
+use Rattle.model.specs.Parts.{Counts, Write, Message, copy, Shelf, State, setShelf, setCrew, unwritten}
 use Rattle.model.specs.Rules.{storing, keep}
 use Rattle.model.proofs.Places.{put-all, Other, setShelf-all, setShelf-same, setShelf-here}
 use Rattle.model.proofs.Showing.{AtMost, atMost-refl, atMost-trans, keeping-rises, keeping-has, keeping-all}
@@ -82,7 +81,7 @@ module _ (π : Counts) (M : Write → Type 0) (σ : State) (z : Sound π M σ) (
   unfolding storing
   keep-shelf = record {
     covers = λ k x o. keeping-all (π .depots) (λ k v. v .vector x ≤ old .stable x) w (old .store) (λ k. h .covers k x o) (covers x o) k;
-    stores = keeping-all (π .depots) (λ k v. (zeros (π .depots) (v .vector) ≡ true) ⊎ M (record { bearing = k; version = v })) w (old .store) (h .stores) (inr made);
+    stores = keeping-all (π .depots) (λ k v. (v ≡ unwritten) ⊎ M (record { bearing = k; version = v })) w (old .store) (h .stores) (inr made);
     taken = h .taken;
     untaken = h .untaken;
     top = h .top;

@@ -13,6 +13,7 @@ pub mod Room
 pub mod Unique
 pub mod Limits
 pub mod Causal
+pub mod Answering
 pub mod Demand2
 pub mod Refreshes
 pub mod Ticks
@@ -21,8 +22,11 @@ pub mod Waiting
 pub mod Possible
 pub mod Demand3
 pub mod TheDemands
+pub mod Everywhere
 pub mod Transfer
 pub mod Lawful
 pub mod Computed
 pub mod Worked
+pub mod PastWorked
+pub mod RoundsWorked
 pub mod Witnesses

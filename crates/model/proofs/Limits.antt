@@ -28,7 +28,7 @@ pub record Fits (d : ℕ) (h : Shelf) : Type 0 where
   pub links : (o : ℕ) → length (h .taken o) + length (h .untaken o) ≤ 16
   pub own : h .stable d ≡ 0
 
-abbrev AllFit : State → Type 0
+abbrev pub AllFit : State → Type 0
 AllFit σ = (d s : ℕ) → Fits d (σ .shelf d s)
 
 left-shorter : (test : Write → Bool) (l : List Write) → length (left test l) ≤ length l
@@ -117,7 +117,7 @@ module _ (π : Counts) where
   acted-fits σ (refresh d s) e f = settle-fits d s _ σ f
 
   module _ (homes : List ℕ) where
-    history-fits : (h : List Call) → AllFit (run π homes h)
+    pub history-fits : (h : List Call) → AllFit (run π homes h)
     unfolding after fresh emptyShelf
     history-fits [] = λ d s. record { links = λ o. omega arith; own = refl }
     history-fits (q ∷ h) = go (history-fits h)

@@ -20,11 +20,11 @@ use Rattle.model.proofs.Refusals.{take-passes, take-none}
 use Rattle.model.proofs.Histories.{run-done, run-refused}
 
 -- every f d s with d below n and s below m
-row : (ℕ → Call) → ℕ → List Call
+unfoldable pub row : (ℕ → Call) → ℕ → List Call
 row f zero = []
 row f (suc i) = f i ∷ row f i
 
-grid : (ℕ → ℕ → Call) → ℕ → ℕ → List Call
+unfoldable pub grid : (ℕ → ℕ → Call) → ℕ → ℕ → List Call
 grid f zero m = []
 grid f (suc d) m = row (f d) m ++ grid f d m
 
@@ -33,7 +33,7 @@ unfolding row
 row-has f zero i h = absurd (omega arith)
 row-has f (suc n) i h = ⊎-elim (λ (e : i ≡ n). List·Memᴰ·head (ap f e)) (λ (l : i < n). List·Memᴰ·tail (row-has f n i l)) (last-or-below i n h)
 
-grid-has : (f : ℕ → ℕ → Call) (n m d s : ℕ) → d < n → s < m → List·Memᴰ (f d s) (grid f n m)
+pub grid-has : (f : ℕ → ℕ → Call) (n m d s : ℕ) → d < n → s < m → List·Memᴰ (f d s) (grid f n m)
 unfolding grid
 grid-has f zero m d s hd hs = absurd (omega arith)
 grid-has f (suc n) m d s hd hs = ⊎-elim
@@ -56,7 +56,7 @@ unfolding row
 row-each kind f zero k q m = absurd (List·Memᴰ·not-nil m)
 row-each kind f (suc n) k q m = ⊎-elim (λ (e : q ≡ f n). subst kind (sym e) (k n)) (λ (m : List·Memᴰ q (row f n)). row-each kind f n k q m) (List·Memᴰ·cases-cons m)
 
-grid-each : (kind : Call → Type 0) (f : ℕ → ℕ → Call) (n m : ℕ) → ((d s : ℕ) → kind (f d s)) → Each kind (grid f n m)
+pub grid-each : (kind : Call → Type 0) (f : ℕ → ℕ → Call) (n m : ℕ) → ((d s : ℕ) → kind (f d s)) → Each kind (grid f n m)
 unfolding grid
 grid-each kind f zero m k q i = absurd (List·Memᴰ·not-nil i)
 grid-each kind f (suc n) m k q i = ⊎-elim (row-each kind (f n) m (k n) q) (grid-each kind f n m k q) (List·Memᴰ·append-cases (row (f n) m) i)

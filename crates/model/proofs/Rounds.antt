@@ -62,7 +62,7 @@ module _ (π : Counts) (homes : List ℕ) (u : SetUp π homes) where
   pub rounds-reach : {n : ℕ} {g h : List Call} → Rounds π (ofModel π homes) n g h → (o b : ℕ) → o < π .depots → b ≤ end → Reached π homes g o b → Reached π homes h o (min (b + n) end)
   unfolding Reached
   rounds-reach begin o b ho top t s hs = let a = t s hs in omega arith
-  rounds-reach (between {h = h} {q = q} r) o b ho top t s hs = le-trans (rounds-reach r o b ho top t s hs) (call-changes π homes u h q .grows .clock o s)
+  rounds-reach (between r) o b ho top t s hs = le-trans (rounds-reach r o b ho top t s hs) (call-changes π homes u _ _ .grows .clock o s)
   rounds-reach (round {n = n} r i) o b ho top t s hs = let a = round-reaches i o (min (b + n) end) ho (rounds-reach r o b ho top t) s hs in omega arith
 
   pub rounds-made : {n : ℕ} {g h : List Call} {w : Write} → Rounds π (ofModel π homes) n g h → Made (ofModel π homes) g w → Made (ofModel π homes) h w
@@ -83,7 +83,7 @@ module _ (π : Counts) (homes : List ℕ) (u : SetUp π homes) where
       → Reached π homes g (w .version .origin) b → stamp (w .version) ≤ b + n
       → (d : ℕ) → d < π .depots → AtMost (π .depots) (w .version) (run π homes h .shelf d (shelfOf π (w .bearing)) .store (w .bearing))
   rounds-deliver begin e w m b top t low d hd = absurd (omega arith)
-  rounds-deliver (between {h = h} {q = q} r) e w m b top t low d hd = atMost-trans (rounds-deliver r e w m b top t low d hd) (call-changes π homes u h q .grows .store d _ _)
+  rounds-deliver (between r) e w m b top t low d hd = atMost-trans (rounds-deliver r e w m b top t low d hd) (call-changes π homes u _ _ .grows .store d _ _)
   rounds-deliver {g = g} (round {n = k} {h = h} r i) e w m b top t low d hd =
       let good = inv π homes u g .good w m in
       let stamped = good .rests .top (w .version .origin) (good .rests .depot) in

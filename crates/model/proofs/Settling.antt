@@ -7,10 +7,10 @@ use mathlib.Core.Path.{_≡_, refl, sym, subst, subst₃}
 use mathlib.Core.Logic.{_⊎_, inl, inr, ⊎-elim}
 use mathlib.Core.Bool.{true, false}
 use mathlib.Core.List.{List, List·Memᴰ}
-use Rattle.order.specs.Vector.{Vec, zeros}
+use Rattle.order.specs.Vector.{Vec}
 use Rattle.loops.proofs.BoolLaws.{decided, both-ways}
 use Rattle.order.proofs.VectorLaws.{covered-at}
-use Rattle.model.specs.Parts.{Counts, Version, Write, Message, copy, Shelf, State, setShelf, other}
+use Rattle.model.specs.Parts.{Counts, Version, Write, Message, copy, Shelf, State, setShelf, unwritten, other}
 use Rattle.model.specs.Rules.{raised, clear, shown, settled, settle}
 use Rattle.model.specs.Calls.{shelfOf}
 use Rattle.model.proofs.Places.{pick-all, Other, other-true, other-intro, setShelf-all, setShelf-same}
@@ -109,7 +109,7 @@ module _ (π : Counts) (M : Write → Type 0) (σ : State) (z : Sound π M σ) (
     covers = λ k x o. settled-all (π .depots) d u old (λ k v. v .vector x ≤ new .stable x)
         (λ k. le-trans (h .covers k x o) (raised-rises (π .depots) d u (old .stable) x))
         (λ p below w m t. unfold clear in covered-at (π .depots) d _ _ t x (o .below) (o .apart)) k;
-    stores = settled-all (π .depots) d u old (λ k v. (zeros (π .depots) (v .vector) ≡ true) ⊎ M (record { bearing = k; version = v })) (h .stores)
+    stores = settled-all (π .depots) d u old (λ k v. (v ≡ unwritten) ⊎ M (record { bearing = k; version = v })) (h .stores)
         (λ o below w m t. inr (h .taken o w below m .made));
     taken = λ o w a m. h .taken o w a (settled-left (π .depots) d u old o m .0);
     untaken = h .untaken;

@@ -5,18 +5,17 @@ use native.Mathlib.Omega.{arith}
 use native.Mathlib.Nat.{le-refl, le-trans}
 use mathlib.Core.Path.{_≡_, refl, sym, subst, ap, _∙_}
 use mathlib.Core.Logic.{_⊎_, ⊎-elim}
-use mathlib.Core.Bool.{true, false}
+use mathlib.Core.Bool.{false}
 use mathlib.Core.List.{List, [], _∷_}
-use Rattle.order.specs.Vector.{Vec, merged, zeros}
-use Rattle.order.proofs.VectorLaws.{zeros-at}
+use Rattle.order.specs.Vector.{Vec, merged}
 use Rattle.loops.proofs.BoolLaws.{eq-or-ne}
-use Rattle.model.specs.Parts.{Counts, Version, Write, Message, copy, heartbeat, Shelf, State, stamp, stampOf, setShelf, setCrew, end}
+use Rattle.model.specs.Parts.{Counts, Version, Write, Message, copy, heartbeat, Shelf, State, stamp, stampOf, setShelf, setCrew, unwritten, end}
 use Rattle.model.specs.Rules.{settle, storing, keep, send, taking, lowestSeen}
 use Rattle.paper.specs.Calls.{read, write, tick, take, refresh}
 use Rattle.model.specs.Calls.{none, shelfOf, homeShelf, answered, made, reading, acted}
 use Rattle.model.proofs.Places.{put-all, put-same, put-other, Other, setShelf-here, lowest-below}
 use Rattle.model.proofs.Showing.{AtMost, atMost-trans}
-use Rattle.model.proofs.Invariant.{Rests, stored, coming, Good, Copied, ShelfSound, Sound, Change, changes, good-changes, rests-grows, sound-more, grows-trans}
+use Rattle.model.proofs.Invariant.{Rests, stored, coming, Good, Copied, Sound, Change, changes, good-changes, rests-grows, stored-rests, merged-rests, sound-more, grows-trans}
 use Rattle.model.proofs.Settling.{raised-offered, settled-stable, settled-same, settle-changes}
 use Rattle.model.proofs.Taking.{take-changes}
 use Rattle.model.proofs.Keeping.{crew-changes, keep-changes, keep-has}
@@ -66,32 +65,22 @@ module _ (π : Counts) (M : Write → Type 0) (σ : State) (z : Sound π M σ) w
     unfolding answered
     answered-covers x o = subst (λ (g : Shelf). g .store k .vector x ≤ g .stable x) home-shelf (home-settles .sound .shelf d s (z .crews c hc .depot) (lies k) .covers k x o)
 
-    pub answered-made : (zeros (π .depots) (answered π c k σ .vector) ≡ true) ⊎ M (record { bearing = k; version = answered π c k σ })
+    pub answered-made : (answered π c k σ ≡ unwritten) ⊎ M (record { bearing = k; version = answered π c k σ })
     unfolding answered
-    answered-made = subst (λ (g : Shelf). (zeros (π .depots) (g .store k .vector) ≡ true) ⊎ M (record { bearing = k; version = g .store k })) home-shelf
+    answered-made = subst (λ (g : Shelf). (g .store k ≡ unwritten) ⊎ M (record { bearing = k; version = g .store k })) home-shelf
         (home-settles .sound .shelf d s (z .crews c hc .depot) (lies k) .stores k)
 
     module _ (good : (w : Write) → M w → Good π σ w) where
       -- what the crew reads rests on what its home has seen
       read-rests : Rests π mid d (answered π c k σ .vector)
       unfolding answered
-      read-rests = subst (λ (g : Shelf). Rests π mid d (g .store k .vector)) home-shelf (record {
-        depot = z .crews c hc .depot;
-        seen = λ r x hr o. le-trans (here .covers k x o) (home-settles .sound .stable d s r x (z .crews c hc .depot) (lies k) hr o);
-        top = λ x hx. ⊎-elim (λ t. subst (λ y. y ≤ end) (sym (zeros-at (π .depots) _ t x hx)) (omega arith)) (λ m. good-changes π home-settles (good _ m) .rests .top x hx) (here .stores k);
-      })
-        where
-          here : ShelfSound π M d s (mid .shelf d s)
-          here = home-settles .sound .shelf d s (z .crews c hc .depot) (lies k)
+      read-rests = subst (λ (g : Shelf). Rests π mid d (g .store k .vector)) home-shelf
+          (stored-rests π (home-settles .sound) (λ w m. good-changes π home-settles (good w m)) (z .crews c hc .depot) (lies k) k)
 
       pub read-done : Change π M σ (acted π σ (read c k) .state)
       unfolding acted reading merged answered homeShelf settle setShelf
       read-done = changes π home-settles (crew-changes π M mid (home-settles .sound) c (merged (σ .crew c) (answered π c k σ .vector))
-          (record {
-            depot = mid-rests .depot;
-            seen = λ r x hr o. let a = mid-rests .seen r x hr o in let b = read-rests .seen r x hr o in omega arith;
-            top = λ x hx. let a = mid-rests .top x hx in let b = read-rests .top x hx in omega arith;
-          })
+          (merged-rests π mid-rests read-rests)
           (λ x. omega arith))
 
     module _ (N : Write → Type 0) (more : (w : Write) → M w → N w) (value : ℕ) (p : WritePassed π σ c k) where

@@ -1,9 +1,9 @@
 -- A system that follows another meets the demands that the other meets. Each sentence looks at both through the same history.
 -- Assumes nothing.
-use Prim.Native.Nat.{ℕ, _+_, _-_, _≤_, _<_, min}
+use Prim.Native.Nat.{ℕ, suc, _+_, _-_, _≤_, _<_, min}
 use native.Mathlib.Nat.{mod-lt}
 use mathlib.Core.Path.{_≡_, refl, sym, _∙_, ap, ap₂, subst, subst₂}
-use mathlib.Core.Logic.{inl, inr}
+use mathlib.Core.Logic.{inl, inr, ⊎-elim}
 use mathlib.Core.Bool.{true}
 use mathlib.Core.List.{List, [], _∷_, _++_}
 use Rattle.order.specs.Vector.{covered}
@@ -11,13 +11,28 @@ use Rattle.order.specs.Order.{above}
 use Rattle.order.proofs.VectorLaws.{covered-same}
 use Rattle.loops.proofs.LoopLaws.{times-same}
 use Rattle.model.specs.Parts.{Counts, Version, Write, rank, stamp, lowest, end, room}
-use Rattle.paper.specs.Calls.{Call, write, tick, take}
+use Rattle.paper.specs.Calls.{Call, write, tick, take, numberIn}
 use Rattle.model.specs.Calls.{shelfOf}
 use Rattle.model.specs.System.{System, after}
 use Rattle.model.specs.Follows.{Alike, Follows}
 use Rattle.model.specs.Demands as demands
 use Rattle.model.specs.Demands.{AtLeast, Silent, Wrote, Got, MadeAt, now, earlier, Made, Past, wrote, got, kept, under}
-use Rattle.model.specs.Demands.{NotInvented, Demand2, Round, Rounds, lowestClock, Demand3, Limits, Demands}
+use Rattle.model.specs.Demands.{NotInvented, WriteAnswers, Demand2, Round, Rounds, lowestClock, Demand3, Limits, Demands}
+
+-- a round of one system is a round of another that has the same numbers
+round-by : {π : Counts} {S T : System} → ((h : List Call) (q : Call) → T .number (after T h) q ≡ S .number (after S h) q) → {g h : List Call} → Round π S g h → Round π T g h
+round-by same {g} r = record {
+  takes = r .takes;
+  refreshes = r .refreshes;
+  ticks = r .ticks;
+  are-takes = r .are-takes;
+  are-refreshes = r .are-refreshes;
+  are-ticks = r .are-ticks;
+  emptied = λ d s o hd hs ho n. same (r .takes ++ g) (take d s o) ∙ r .emptied d s o hd hs ho n;
+  refreshed = r .refreshed;
+  ticked = r .ticked;
+  ends = r .ends;
+}
 
 module _ {π : Counts} {S T : System} (f : Follows π S T) where
   -- the state after every history
@@ -39,6 +54,9 @@ module _ {π : Counts} {S T : System} (f : Follows π S T) where
 
   got-to : {h : List Call} {q : Call} {c k : ℕ} {v : Version} → Got S h q c k v → Got T h q c k v
   got-to {h} {q} {c} {k} {v} t = let p = sym (alike h .number q) ∙ t .passed in record { passed = p; gets = alike h .gets-to q c k v p (t .gets) }
+
+  got-from : {h : List Call} {q : Call} {c k : ℕ} {v : Version} → Got T h q c k v → Got S h q c k v
+  got-from {h} {q} {c} {k} {v} t = record { passed = alike h .number q ∙ t .passed; gets = alike h .gets-from q c k v (t .passed) (t .gets) }
 
   at-to : {h g : List Call} {c : ℕ} {w : Write} → MadeAt S h g c w → MadeAt T h g c w
   at-to (now t) = now (wrote-to t)
@@ -62,7 +80,7 @@ module _ {π : Counts} {S T : System} (f : Follows π S T) where
   written-from (inr m) = inr (record { before = m .before; author = m .author; at = at-from (m .at) })
 
   -- what was made lies on a bearing, and comes from a depot
-  named : {h g : List Call} {c : ℕ} {w : Write} → MadeAt T h g c w → (w .bearing < π .bearings) × (w .version .origin < π .depots)
+  named : {h g : List Call} {c : ℕ} {w : Write} → MadeAt T h g c w → (c < π .crews) × (w .bearing < π .bearings) × (w .version .origin < π .depots)
   named (now {h = h} {q = q} {c = c} {w = w} t) = alike h .writes q c w (t .passed) (t .makes)
   named (earlier m) = named m
 
@@ -79,11 +97,31 @@ module _ {π : Counts} {S T : System} (f : Follows π S T) where
     cover h d k hd e t =
         covered-same (π .depots) d _ _ _ _ (λ x hx. ap (λ (v : Version). v .vector x) e) (λ x hx. alike h .stable d _ x hd (mod-lt k shelves) hx) ∙ t
 
+    written-as : (h : List Call) (q : Call) (c : ℕ) (w : Write) → Wrote T h q c w → WriteAnswers π T h q c w → WriteAnswers π S h q c w
+    unfolding shelfOf
+    written-as h q c w t R =
+        let a = alike h .writes q c w (t .passed) (t .makes) in
+        let there = alike (q ∷ h) .store (w .version .origin) (w .bearing) (a .2) (a .1) in
+        record {
+          asked = R .asked;
+          origin = R .origin ∙ sym (alike h .home c (a .0));
+          stamped = R .stamped ∙ ap suc (sym (alike h .clock _ _ (a .2) (mod-lt (w .bearing) shelves)));
+          entries = λ x hx n. R .entries x hx n ∙ sym (alike h .crew c x (a .0) hx);
+          answer = ⊎-elim
+              (λ p. inl (alike h .answer q ∙ p .0, there ∙ p .1))
+              (λ p. inr (alike h .answer q ∙ p .0, subst (λ (v : Version). above (π .depots) (rank v) (rank (w .version)) ≡ true) (sym there) (p .1)))
+              (R .answer);
+        }
+
     pub demand2-from : Demand2 π T → Demand2 π S
     demand2-from D = record {
+      numbered = λ h q. ap numberIn (alike h .answer q) ∙ D .numbered h q ∙ sym (alike h .number q);
+      each-read = λ h c k e. let g = D .each-read h c k (sym (alike h .number _) ∙ e) in (g .0, got-from (g .1));
+      each-write = λ h c k value e. let w = D .each-write h c k value (sym (alike h .number _) ∙ e) in (w .0, wrote-from (w .1));
       crew-rises = λ l h c x hc hx. both (alike h .crew c x hc hx) (alike (l ++ h) .crew c x hc hx) (D .crew-rises l h c x hc hx);
       hidden = λ h d k hd hk. cover h d k hd (alike h .store d k hd hk) (D .hidden h d k hd hk);
       seen-first = λ h d s r x hd hs hr hx n. both (alike h .stable d s x hd hs hx) (alike h .seen d r x hd hr hx n) (D .seen-first h d s r x hd hs hr hx n);
+      sent-first = λ h d s x hd hs hx n. both (alike h .seen d s x hd hs hx n) (alike h .clock x s hx hs) (D .sent-first h d s x hd hs hx n);
       not-invented = λ h d k hd hk. subst (NotInvented π S h k) (sym (alike h .store d k hd hk)) (written-from (D .not-invented h d k hd hk));
       reads = λ h q c k v g.
           let g′ = got-to g in
@@ -98,6 +136,7 @@ module _ {π : Counts} {S T : System} (f : Follows π S T) where
             written = written-from (R .written);
             causal = λ w e p. R .causal w e (past-to p);
           };
+      writes = λ h q c w t. written-as h q c w (wrote-to t) (D .writes h q c w (wrote-to t));
       rests-on-lower = λ h g b v w m p. D .rests-on-lower h g b v w (at-to m) (past-to p);
       store-rises = λ l h d k hd hk.
           ap₂ (λ (a b : Version). above (π .depots) (rank a) (rank b)) (alike h .store d k hd hk) (alike (l ++ h) .store d k hd hk) ∙ D .store-rises l h d k hd hk;
@@ -108,38 +147,10 @@ module _ {π : Counts} {S T : System} (f : Follows π S T) where
 
   -- ---- demand 3
 
-  round-to : {g h : List Call} → Round π S g h → Round π T g h
-  round-to {g} {h} r = record {
-    takes = r .takes;
-    refreshes = r .refreshes;
-    ticks = r .ticks;
-    are-takes = r .are-takes;
-    are-refreshes = r .are-refreshes;
-    are-ticks = r .are-ticks;
-    emptied = λ d s o hd hs ho n. sym (alike (r .takes ++ g) .number (take d s o)) ∙ r .emptied d s o hd hs ho n;
-    refreshed = r .refreshed;
-    ticked = r .ticked;
-    ends = r .ends;
-  }
-
-  round-from : {g h : List Call} → Round π T g h → Round π S g h
-  round-from {g} {h} r = record {
-    takes = r .takes;
-    refreshes = r .refreshes;
-    ticks = r .ticks;
-    are-takes = r .are-takes;
-    are-refreshes = r .are-refreshes;
-    are-ticks = r .are-ticks;
-    emptied = λ d s o hd hs ho n. alike (r .takes ++ g) .number (take d s o) ∙ r .emptied d s o hd hs ho n;
-    refreshed = r .refreshed;
-    ticked = r .ticked;
-    ends = r .ends;
-  }
-
   rounds-to : {n : ℕ} {g h : List Call} → Rounds π S n g h → Rounds π T n g h
   rounds-to demands.begin = demands.begin
   rounds-to (demands.between r) = demands.between (rounds-to r)
-  rounds-to (demands.round r i) = demands.round (rounds-to r) (round-to i)
+  rounds-to (demands.round r i) = demands.round (rounds-to r) (round-by (λ h q. sym (alike h .number q)) i)
 
   silent-to : {c : ℕ} {g h : List Call} → Silent S c g h → Silent T c g h
   silent-to demands.start = demands.start
@@ -150,13 +161,13 @@ module _ {π : Counts} {S T : System} (f : Follows π S T) where
   lowest-same h d hd = times-same (π .shelves) _ _ end λ s m hs. ap (λ (t : ℕ). min m t) (alike h .clock d s hd hs)
 
   pub demand3-from : Demand3 π T → Demand3 π S
-  unfolding round-from
+  unfolding round-by
   demand3-from D = record {
     delivered = λ g h w m r d hd.
         let m′ = made-to m in
         let a = named (m′ .at) in
-        subst (λ v. AtLeast (π .depots) v (w .version)) (sym (alike h .store d (w .bearing) hd (a .0)))
-        (D .delivered g h w m′ (subst (λ n. Rounds π T (stamp (w .version) - n + 1) g h) (lowest-same g (w .version .origin) (a .1)) (rounds-to r)) d hd);
+        subst (λ v. AtLeast (π .depots) v (w .version)) (sym (alike h .store d (w .bearing) hd (a .1)))
+        (D .delivered g h w m′ (subst (λ n. Rounds π T (stamp (w .version) - n + 1) g h) (lowest-same g (w .version .origin) (a .2)) (rounds-to r)) d hd);
     waits = λ g h c r s k v e.
         let e′ = sym (alike h .number (write c k v)) ∙ e in
         let hc = alike h .waits c k v e′ in
@@ -165,7 +176,7 @@ module _ {π : Counts} {S T : System} (f : Follows π S T) where
         D .waits g h c
         (subst₂ (λ x y. Rounds π T (x - y) g h) (ap (S .crew (after S g) c) house ∙ alike g .crew c _ hc below) (ap (lowestClock π S g) house ∙ lowest-same g _ below) (rounds-to r))
         (silent-to s) k v e′;
-    possible = λ h. let p = D .possible h in (p .0, record { round = round-from (p .1 .round); refreshes = p .1 .refreshes; ticks = p .1 .ticks });
+    possible = λ h. let p = D .possible h in (p .0, record { round = round-by (λ h q. alike h .number q) (p .1 .round); refreshes = p .1 .refreshes; ticks = p .1 .ticks });
   }
 
   -- ---- limits

@@ -12,19 +12,20 @@ use Rattle.order.specs.Order.{above}
 use Rattle.loops.proofs.BoolLaws.{both-ways, decided}
 use Rattle.order.proofs.VectorLaws.{written-at}
 use Rattle.order.proofs.OrderLaws.{above-total, above-written}
-use Rattle.model.specs.Parts.{Counts, Version, Write, rank, stamp}
+use Rattle.model.specs.Parts.{Counts, Version, Write, rank, stamp, unwritten}
 use Rattle.paper.specs.Calls.{Call, write, tick}
 use Rattle.model.specs.Calls.{shelfOf, made}
 use Rattle.model.specs.System.{ofModel, run}
 use Rattle.model.specs.Demands.{Wrote, MadeAt, now, earlier, Made, AtLeast}
 use Rattle.model.proofs.Places.{put-same}
 use Rattle.model.proofs.Showing.{AtMost}
+use Rattle.model.proofs.Invariant.{unwritten-zeros}
 use Rattle.model.proofs.Refusals.{SetUp}
 use Rattle.model.proofs.Histories.{made-cases, made-never, inv, history-grows}
 
 module _ (π : Counts) (homes : List ℕ) where
   -- what the last call wrote has the new clock of its shelf for its stamp
-  wrote-stamp : {h : List Call} {q : Call} {c : ℕ} {w : Write} → Wrote (ofModel π homes) h q c w
+  pub wrote-stamp : {h : List Call} {q : Call} {c : ℕ} {w : Write} → Wrote (ofModel π homes) h q c w
       → stamp (w .version) ≡ suc (run π homes h .shelf (w .version .origin) (shelfOf π (w .bearing)) .clock)
   unfolding made
   wrote-stamp {h} {q} {c} {w} t = subst (λ (v : Version). stamp v ≡ suc (run π homes h .shelf (v .origin) (shelfOf π (w .bearing)) .clock)) (sym (t .makes .2)) (put-same _ _ _)
@@ -74,9 +75,9 @@ module _ (π : Counts) (homes : List ℕ) where
 
     -- a version that is not below a write made to its bearing, and is unwritten or was made itself
     pub at-least : (h : List Call) (v : Version) (w : Write) → Made (ofModel π homes) h w → AtMost (π .depots) (w .version) v
-        → (zeros (π .depots) (v .vector) ≡ true) ⊎ Made (ofModel π homes) h (record { bearing = w .bearing; version = v }) → AtLeast (π .depots) v (w .version)
+        → (v ≡ unwritten) ⊎ Made (ofModel π homes) h (record { bearing = w .bearing; version = v }) → AtLeast (π .depots) v (w .version)
     at-least h v w m low from = ⊎-elim
-        (λ (e : zeros (π .depots) (v .vector) ≡ true). absurd (both-ways (above-written (π .depots) (rank (w .version)) (rank v) (made-written h w m) e) (low .holds)))
+        (λ (e : v ≡ unwritten). absurd (both-ways (above-written (π .depots) (rank (w .version)) (rank v) (made-written h w m) (unwritten-zeros (π .depots) e)) (low .holds)))
         (λ n. ⊎-elim
         (λ (e : above (π .depots) (rank v) (rank (w .version)) ≡ true). inr e)
         (λ (e : above (π .depots) (rank v) (rank (w .version)) ≡ false). inl (same n e))

@@ -14,7 +14,7 @@ use Rattle.paper.specs.Calls.{tick, take}
 use Rattle.model.specs.Calls.{answers, step}
 use Rattle.model.specs.System.{after}
 use Rattle.model.specs.Cases.{counts, homes, listingToB, listing, listingAnswers, stableAfter, caseD, caseDAnswers}
-use Rattle.model.specs.Cases.{caseE, caseEAnswers, caseF, caseFAnswers, manyTicks, manyDone, caseG, caseGAnswers, clockAfter}
+use Rattle.model.specs.Cases.{caseE, caseEAnswers, caseF, caseFAnswers, manyTicks, manyDone, caseG, caseGAnswers, clockAfter, CasesHold}
 use Rattle.model.proofs.Lawful.{dominates, lawful, lawful-agrees, like, knowing, knowing-agrees}
 use Rattle.model.proofs.Computed.{answersNow, endsNow, answers-computed, ends-computed}
 
@@ -64,3 +64,16 @@ caseG-full = refl
 pub caseG-again : clockAfter (tick 0 0 ∷ (take 1 0 0 ∷ manyTicks 17)) ≡ 17
 unfolding answersNow counts homes manyTicks clockAfter after step
 caseG-again = refl
+
+pub cases-hold : CasesHold
+cases-hold = record {
+  listed = listing-holds;
+  c-before = caseC-before;
+  c-after = caseC-after;
+  d = caseD-holds;
+  e = caseE-holds;
+  f = caseF-holds;
+  g = caseG-holds;
+  g-full = caseG-full;
+  g-again = caseG-again;
+}

@@ -1,10 +1,11 @@
 -- The worked cases that speak of the model: the listing with (a) to (c), and (d) to (g).
 -- Assumes nothing.
 use Prim.Native.Nat.{ℕ, zero, suc}
+use mathlib.Core.Path.{_≡_}
 use mathlib.Core.List.{List, [], _∷_, _++_}
-use Rattle.model.specs.Parts.{Counts, Write, fresh}
+use Rattle.model.specs.Parts.{Counts, fresh}
 use Rattle.paper.specs.Calls.{Call, read, write, tick, take, refresh, Answer, refused, done, reads, read-value, read-unwritten, current, superseded}
-use Rattle.model.specs.Calls.{made, ends}
+use Rattle.model.specs.Calls.{answers, ends}
 use Rattle.model.specs.System.{run}
 
 -- S 2 2 4 2 0 1: two depots, two shelves, four bearings, two crews with homes 0 and 1
@@ -107,51 +108,15 @@ caseGAnswers = manyDone 16 ++ (refused 9 ∷ (done ∷ (done ∷ [])))
 unfoldable pub clockAfter : List Call → ℕ
 clockAfter h = run counts homes h .shelf 0 0 .clock
 
--- ---- the causal rule and rounds, worked; histories have their newest call first
-
--- crew 0 writes 20 to bearing 0, then 30 to bearing 1, which so rests on it
-unfoldable pub twentyWritten : List Call
-twentyWritten = tick 0 1 ∷ (write 0 0 20 ∷ [])
-
--- both are sent to depot 1, and shown there as far as they are covered
-unfoldable pub thirtySent : List Call
-thirtySent = refresh 1 1 ∷ (take 1 0 0 ∷ (tick 0 0 ∷ (take 1 1 0 ∷ (take 1 1 0 ∷ (take 1 0 0 ∷ (write 0 1 30 ∷ twentyWritten))))))
-
--- crew 1 reads 30, and never reads bearing 0
-unfoldable pub thirtyRead : List Call
-thirtyRead = read 1 1 ∷ thirtySent
-
-unfoldable pub twenty : Write
-twenty = record { bearing = 0; version = made counts 0 0 20 (fresh homes) }
-
-unfoldable pub thirty : Write
-thirty = record { bearing = 1; version = made counts 0 1 30 (run counts homes twentyWritten) }
-
--- (f) again: the two writes, and the calls of each of the two rounds
-unfoldable pub twoWrites : List Call
-twoWrites = write 1 0 9 ∷ (write 0 0 7 ∷ [])
-
-unfoldable pub firstTakes : List Call
-firstTakes = take 0 1 1 ∷ (take 0 0 1 ∷ (take 0 0 1 ∷ (take 1 1 0 ∷ (take 1 0 0 ∷ (take 1 0 0 ∷ [])))))
-
-unfoldable pub secondTakes : List Call
-secondTakes = take 0 1 1 ∷ (take 0 1 1 ∷ (take 0 0 1 ∷ (take 0 0 1 ∷ (take 1 1 0 ∷ (take 1 1 0 ∷ (take 1 0 0 ∷ (take 1 0 0 ∷ [])))))))
-
-unfoldable pub allRefreshed : List Call
-allRefreshed = refresh 1 1 ∷ (refresh 1 0 ∷ (refresh 0 1 ∷ (refresh 0 0 ∷ [])))
-
-unfoldable pub allTicked : List Call
-allTicked = tick 1 1 ∷ (tick 1 0 ∷ (tick 0 1 ∷ (tick 0 0 ∷ [])))
-
-unfoldable pub oneRound : List Call
-oneRound = allTicked ++ (allRefreshed ++ (firstTakes ++ twoWrites))
-
-unfoldable pub twoRounds : List Call
-twoRounds = allTicked ++ (allRefreshed ++ (secondTakes ++ oneRound))
-
--- crew 0 has written, and waits at shelf 1, asking again and again
-unfoldable pub asked : List Call
-asked = write 0 0 20 ∷ []
-
-unfoldable pub askedAgain : List Call
-askedAgain = write 0 1 30 ∷ (write 0 1 30 ∷ asked)
+-- what these cases come to
+pub record CasesHold : Type 0 where
+  -- the listing's answers with those of (a) to (c), one list with one claim
+  pub listed : answers counts (fresh homes) listing ≡ listingAnswers
+  pub c-before : stableAfter listingToB ≡ 1
+  pub c-after : stableAfter listing ≡ 2
+  pub d : answers counts (fresh homes) caseD ≡ caseDAnswers
+  pub e : answers counts (fresh homes) caseE ≡ caseEAnswers
+  pub f : answers counts (fresh homes) caseF ≡ caseFAnswers
+  pub g : answers counts (fresh homes) caseG ≡ caseGAnswers
+  pub g-full : clockAfter (manyTicks 17) ≡ 16
+  pub g-again : clockAfter (tick 0 0 ∷ (take 1 0 0 ∷ manyTicks 17)) ≡ 17

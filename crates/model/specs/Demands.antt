@@ -8,8 +8,8 @@ use mathlib.Core.List.{List, _∷_, _++_, List·Memᴰ}
 use lib.ListN.{length}
 use Rattle.order.specs.Vector.{covered, zeros}
 use Rattle.order.specs.Order.{above}
-use Rattle.model.specs.Parts.{Counts, Version, Write, rank, stamp, lowest, end, room}
-use Rattle.paper.specs.Calls.{Call, read, write, tick, take, refresh, reads}
+use Rattle.model.specs.Parts.{Counts, Version, Write, rank, stamp, unwritten, lowest, end, room}
+use Rattle.paper.specs.Calls.{Call, read, write, tick, take, refresh, reads, current, superseded, numberIn}
 use Rattle.model.specs.Calls.{told, shelfOf}
 use Rattle.model.specs.System.{System, after}
 
@@ -92,7 +92,7 @@ module _ (π : Counts) (S : System) where
 
   -- the version v of bearing k is unwritten, or one that somebody wrote to that very bearing
   abbrev pub NotInvented : List Call → ℕ → Version → Type 0
-  NotInvented h k v = (zeros (π .depots) (v .vector) ≡ true) ⊎ Made S h (record { bearing = k; version = v })
+  NotInvented h k v = (v ≡ unwritten) ⊎ Made S h (record { bearing = k; version = v })
 
   -- what the call q, done after history h, answers crew c of bearing k: the version v
   pub record ReadAnswers (h : List Call) (q : Call) (c k : ℕ) (v : Version) : Type 0 where
@@ -104,7 +104,24 @@ module _ (π : Counts) (S : System) where
     -- it is no version lower than any write to that bearing in the crew's past: that write's, or a greater one
     pub causal : (w : Write) → w .bearing ≡ k → Past h c w → AtLeast (π .depots) v (w .version)
 
+  -- the call q, done after history h, is crew c's write w
+  pub record WriteAnswers (h : List Call) (q : Call) (c : ℕ) (w : Write) : Type 0 where
+    -- what was asked for is made at the crew's home
+    pub asked : q ≡ write c (w .bearing) (w .version .value)
+    pub origin : w .version .origin ≡ S .home (after S h) c
+    -- the stamp is the clock moved on by one, the other entries are the crew's
+    pub stamped : stamp (w .version) ≡ suc (S .clock (after S h) (w .version .origin) (shelfOf π (w .bearing)))
+    pub entries : (x : ℕ) → x < π .depots → (x ≡ w .version .origin → ⊥) → w .version .vector x ≡ S .crew (after S h) c x
+    -- the answer is the stamp, and "current" where the home shelf then stores it, "superseded" where it stores a greater one
+    pub answer : ((S .answer (after S h) q ≡ current (stamp (w .version))) × (S .store (after S (q ∷ h)) (w .version .origin) (w .bearing) ≡ w .version))
+        ⊎ ((S .answer (after S h) q ≡ superseded (stamp (w .version)))
+        × (above (π .depots) (rank (S .store (after S (q ∷ h)) (w .version .origin) (w .bearing))) (rank (w .version)) ≡ true))
+
   pub record Demand2 : Type 0 where
+    -- a call's number is that of its answer; each read that is done answers with a version, each write that is done makes one
+    pub numbered : (h : List Call) (q : Call) → numberIn (S .answer (after S h) q) ≡ S .number (after S h) q
+    pub each-read : (h : List Call) (c k : ℕ) → Done S h (read c k) → (v : Version) × Got S h (read c k) c k v
+    pub each-write : (h : List Call) (c k value : ℕ) → Done S h (write c k value) → (w : Write) × Wrote S h (write c k value) c w
     -- a crew's vector never goes down, entry by entry
     pub crew-rises : (l h : List Call) (c x : ℕ) → c < π .crews → x < π .depots → S .crew (after S h) c x ≤ S .crew (after S (l ++ h)) c x
     -- a version is stored at a shelf only if the shelf's stable vector covers it in all entries but the depot's own
@@ -112,16 +129,22 @@ module _ (π : Counts) (S : System) where
     -- and no other entry of a stable vector is above what any shelf of the depot has seen
     pub seen-first : (h : List Call) (d s r x : ℕ) → d < π .depots → s < π .shelves → r < π .shelves → x < π .depots → (x ≡ d → ⊥)
         → S .stable (after S h) d s x ≤ S .seen (after S h) d r x
+    -- nor is what a shelf has seen above the clock of the shelf that sent it
+    pub sent-first : (h : List Call) (d s x : ℕ) → d < π .depots → s < π .shelves → x < π .depots → (x ≡ d → ⊥)
+        → S .seen (after S h) d s x ≤ S .clock (after S h) x s
     -- a shelf stores unwritten, or a version that somebody wrote to that very bearing
     pub not-invented : (h : List Call) (d k : ℕ) → d < π .depots → k < π .bearings → NotInvented h k (S .store (after S h) d k)
     -- and a read answers nothing else, and nothing lower than its crew's past
     pub reads : (h : List Call) (q : Call) (c k : ℕ) (v : Version) → Got S h q c k v → ReadAnswers h q c k v
+    pub writes : (h : List Call) (q : Call) (c : ℕ) (w : Write) → Wrote S h q c w → WriteAnswers h q c w
     -- a version resting on another is the greater: what was in its author's past when a write was made is below it
-    pub rests-on-lower : (h g : List Call) (b : ℕ) (v w : Write) → MadeAt S h g b v → Past g b w → above (π .depots) (rank (v .version)) (rank (w .version)) ≡ true
+    pub rests-on-lower : (h g : List Call) (b : ℕ) (v w : Write) → MadeAt S h g b v → Past g b w
+        → above (π .depots) (rank (v .version)) (rank (w .version)) ≡ true
     -- a shelf's store, stable vector, seen stamps and clock never go down
     pub store-rises : (l h : List Call) (d k : ℕ) → d < π .depots → k < π .bearings
         → above (π .depots) (rank (S .store (after S h) d k)) (rank (S .store (after S (l ++ h)) d k)) ≡ false
-    pub stable-rises : (l h : List Call) (d s x : ℕ) → d < π .depots → s < π .shelves → x < π .depots → S .stable (after S h) d s x ≤ S .stable (after S (l ++ h)) d s x
+    pub stable-rises : (l h : List Call) (d s x : ℕ) → d < π .depots → s < π .shelves → x < π .depots
+        → S .stable (after S h) d s x ≤ S .stable (after S (l ++ h)) d s x
     pub seen-rises : (l h : List Call) (d s x : ℕ) → d < π .depots → s < π .shelves → x < π .depots → (x ≡ d → ⊥)
         → S .seen (after S h) d s x ≤ S .seen (after S (l ++ h)) d s x
     pub clock-rises : (l h : List Call) (d s : ℕ) → d < π .depots → s < π .shelves → S .clock (after S h) d s ≤ S .clock (after S (l ++ h)) d s
@@ -179,8 +202,8 @@ module _ (π : Counts) (S : System) where
     -- a clock never passes the end
     pub clocks : (h : List Call) (d s : ℕ) → d < π .depots → s < π .shelves → S .clock (after S h) d s ≤ end
     -- no two writes of one depot to one shelf share a stamp
-    pub stamps : (h : List Call) (v w : Write) → Made S h v → Made S h w → v .version .origin ≡ w .version .origin → shelfOf π (v .bearing) ≡ shelfOf π (w .bearing)
-        → stamp (v .version) ≡ stamp (w .version) → v ≡ w
+    pub stamps : (h : List Call) (v w : Write) → Made S h v → Made S h w → v .version .origin ≡ w .version .origin
+        → shelfOf π (v .bearing) ≡ shelfOf π (w .bearing) → stamp (v .version) ≡ stamp (w .version) → v ≡ w
     -- nor do a heartbeat, whose stamp is the clock after its tick, and a later write of its shelf: the write's is above it
     pub beats : (l h : List Call) (d s : ℕ) (q : Call) (c : ℕ) (w : Write) → d < π .depots → s < π .shelves → Done S h (tick d s)
         → Wrote S (l ++ (tick d s ∷ h)) q c w → w .version .origin ≡ d → shelfOf π (w .bearing) ≡ s → S .clock (after S (tick d s ∷ h)) d s < stamp (w .version)

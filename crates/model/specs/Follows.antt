@@ -21,9 +21,11 @@ pub record Alike (π : Counts) (S T : System) (s : S .State) (t : T .State) : Ty
   pub makes-to : (q : Call) (c : ℕ) (w : Write) → T .number t q ≡ 0 → S .makes s q c w → T .makes t q c w
   pub makes-from : (q : Call) (c : ℕ) (w : Write) → T .number t q ≡ 0 → T .makes t q c w → S .makes s q c w
   pub gets-to : (q : Call) (c k : ℕ) (v : Version) → T .number t q ≡ 0 → S .gets s q c k v → T .gets t q c k v
+  pub gets-from : (q : Call) (c k : ℕ) (v : Version) → T .number t q ≡ 0 → T .gets t q c k v → S .gets s q c k v
   -- what is done, and what waits, names what there is
   pub reads : (q : Call) (c k : ℕ) (v : Version) → T .number t q ≡ 0 → T .gets t q c k v → (c < π .crews) × (k < π .bearings)
-  pub writes : (q : Call) (c : ℕ) (w : Write) → T .number t q ≡ 0 → T .makes t q c w → (w .bearing < π .bearings) × (w .version .origin < π .depots)
+  pub writes : (q : Call) (c : ℕ) (w : Write) → T .number t q ≡ 0 → T .makes t q c w
+      → (c < π .crews) × (w .bearing < π .bearings) × (w .version .origin < π .depots)
   pub waits : (c k value : ℕ) → T .number t (write c k value) ≡ 8 → c < π .crews
   pub housed : (c : ℕ) → c < π .crews → T .home t c < π .depots
 

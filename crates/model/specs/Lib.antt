@@ -2,6 +2,8 @@ pub mod Parts
 pub mod Rules
 pub mod Calls
 pub mod System
-pub mod Cases
 pub mod Demands
+pub mod Cases
+pub mod Words
 pub mod Follows
+pub mod Everywhere

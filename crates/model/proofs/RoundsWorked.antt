@@ -1,0 +1,121 @@
+-- Rounds at work: (f) is two of them, and a read among its calls makes them none.
+-- Assumes nothing.
+use Prim.Native.Nat.{ℕ, zero, suc, _<_}
+use native.Mathlib.Omega.{arith}
+use mathlib.Core.Path.{_≡_, refl, sym, subst, ap}
+use mathlib.Core.Logic.{_⊎_, inl, inr, ⊎-elim}
+use mathlib.Core.List.{List, [], _∷_, _++_, reverse, List·Memᴰ·cases-cons, List·Memᴰ·not-nil, List·Memᴰ·append-cases}
+use Rattle.paper.specs.Calls.{Call, read, tick, take, refresh}
+use Rattle.model.specs.Parts.{State, fresh}
+use Rattle.model.specs.Rules.{shown, settled, settle, storing, keep}
+use Rattle.model.specs.Calls.{step, ends}
+use Rattle.model.specs.System.{after, run}
+use Rattle.model.specs.Demands as demands
+use Rattle.model.specs.Demands.{IsTake, a-take, IsRefresh, a-refresh, IsTick, a-tick, Among, Each, Round, Rounds}
+use Rattle.model.specs.Cases.{counts, homes, caseF}
+use Rattle.model.specs.Words.{allRefreshed, allTicked, twoWrites, firstTakes, oneRound, secondTakes, twoRounds, duo, numberAfter}
+use Rattle.model.proofs.Possible.{row, grid, grid-has, grid-each}
+use Rattle.model.proofs.Lawful.{dominates, lawful, lawful-agrees}
+use Rattle.model.proofs.Computed.{answersNow, endsNow, ends-computed}
+
+pub taking : {d s o : ℕ} {l : List Call} → Each IsTake l → Each IsTake (take d s o ∷ l)
+taking each q m = ⊎-elim (λ e. subst IsTake (sym e) a-take) (each q) (List·Memᴰ·cases-cons m)
+
+pub no-takes : Each IsTake []
+no-takes q m = absurd (List·Memᴰ·not-nil m)
+
+-- what holds of both depots, or both shelves
+both : (Q : ℕ → Type 0) → Q 0 → Q 1 → (x : ℕ) → x < 2 → Q x
+both Q a b zero h = a
+both Q a b (suc zero) h = b
+both Q a b (suc (suc x)) h = absurd (omega arith)
+
+abbrev pub Emptied : List Call → ℕ → ℕ → ℕ → Type 0
+Emptied h d s o = (o ≡ d → ⊥) → numberAfter h (take d s o) ≡ 7
+
+-- two depots with two shelves have four links
+pub all-links : (h : List Call) → Emptied h 0 0 1 → Emptied h 0 1 1 → Emptied h 1 0 0 → Emptied h 1 1 0
+    → (d s o : ℕ) → d < 2 → s < 2 → o < 2 → Emptied h d s o
+all-links h a b c e d s o hd hs ho =
+    both (λ d. Emptied h d s o)
+    (both (λ s. Emptied h 0 s o) (both (Emptied h 0 0) (λ n. absurd (n refl)) a o ho) (both (Emptied h 0 1) (λ n. absurd (n refl)) b o ho) s hs)
+    (both (λ s. Emptied h 1 s o) (both (Emptied h 1 0) c (λ n. absurd (n refl)) o ho) (both (Emptied h 1 1) e (λ n. absurd (n refl)) o ho) s hs)
+    d hd
+
+-- and four shelves
+pub all-refreshes : Each IsRefresh allRefreshed
+unfolding allRefreshed grid row
+all-refreshes = grid-each IsRefresh refresh 2 2 (λ d s. a-refresh)
+
+pub all-ticks : Each IsTick allTicked
+unfolding allTicked grid row
+all-ticks = grid-each IsTick tick 2 2 (λ d s. a-tick)
+
+-- a round of these takes, then every shelf refreshed, then every shelf ticked
+pub round-of : (takes g : List Call) → Each IsTake takes → ((d s o : ℕ) → d < 2 → s < 2 → o < 2 → Emptied (takes ++ g) d s o)
+    → Round counts duo g (allTicked ++ (allRefreshed ++ (takes ++ g)))
+unfolding allRefreshed allTicked counts grid row
+round-of takes g are emptied = record {
+  takes = takes;
+  refreshes = allRefreshed;
+  ticks = allTicked;
+  are-takes = are;
+  are-refreshes = all-refreshes;
+  are-ticks = all-ticks;
+  emptied = emptied;
+  refreshed = grid-has refresh 2 2;
+  ticked = grid-has tick 2 2;
+  ends = refl;
+}
+
+first-emptied : (d s o : ℕ) → d < 2 → s < 2 → o < 2 → Emptied (firstTakes ++ twoWrites) d s o
+unfolding answersNow counts homes firstTakes twoWrites after step settled shown settle storing keep
+first-emptied = all-links (firstTakes ++ twoWrites) (λ n. refl) (λ n. refl) (λ n. refl) (λ n. refl)
+
+second-emptied : (d s o : ℕ) → d < 2 → s < 2 → o < 2 → Emptied (secondTakes ++ oneRound) d s o
+unfolding answersNow counts homes firstTakes secondTakes allRefreshed allTicked oneRound twoWrites after step settled shown settle storing keep
+second-emptied = all-links (secondTakes ++ oneRound) (λ n. refl) (λ n. refl) (λ n. refl) (λ n. refl)
+
+first-takes : Each IsTake firstTakes
+unfolding firstTakes
+first-takes = taking (taking (taking (taking (taking (taking no-takes)))))
+
+second-takes : Each IsTake secondTakes
+unfolding secondTakes
+second-takes = taking (taking (taking (taking (taking (taking (taking (taking no-takes)))))))
+
+pub is-f : reverse twoRounds ++ (read 0 0 ∷ (read 1 0 ∷ [])) ≡ caseF
+unfolding caseF twoRounds oneRound firstTakes secondTakes allRefreshed allTicked twoWrites
+is-f = refl
+
+pub f-rounds : Rounds counts duo 2 twoWrites twoRounds
+unfolding oneRound twoRounds
+f-rounds = demands.round (demands.round demands.begin (round-of firstTakes twoWrites first-takes first-emptied)) (round-of secondTakes oneRound second-takes second-emptied)
+
+oldestFirst : List Call
+unfolding allTicked allRefreshed firstTakes twoWrites
+oldestFirst = reverse (allTicked ++ (allRefreshed ++ (firstTakes ++ twoWrites)))
+
+pub not-yet : run counts homes oneRound .shelf 1 0 .store 0 .value ≡ 9
+unfolding endsNow dominates lawful counts homes oneRound oldestFirst after ends
+not-yet = ap (λ (σ : State). σ .shelf 1 0 .store 0 .value) (ends-computed counts lawful lawful-agrees (fresh homes) oldestFirst)
+
+nothing-there : (d s o : ℕ) → d < 2 → s < 2 → o < 2 → Emptied [] d s o
+unfolding answersNow counts homes after
+nothing-there = all-links [] (λ n. refl) (λ n. refl) (λ n. refl) (λ n. refl)
+
+pub plain : Round counts duo [] (allTicked ++ allRefreshed)
+unfolding allRefreshed
+plain = round-of [] [] no-takes nothing-there
+
+-- a round has takes, refreshes and ticks, and nothing else
+of-round : {h : List Call} {q : Call} → Round counts duo [] h → Among q h → IsTick q ⊎ (IsRefresh q ⊎ IsTake q)
+of-round {h} {q} r m =
+    ⊎-elim (λ t. inl (r .are-ticks q t))
+    (λ t. ⊎-elim (λ t. inr (inl (r .are-refreshes q t)))
+    (λ t. ⊎-elim (λ t. inr (inr (r .are-takes q t))) (λ t. absurd (List·Memᴰ·not-nil t)) (List·Memᴰ·append-cases (r .takes) t))
+    (List·Memᴰ·append-cases (r .refreshes) t))
+    (List·Memᴰ·append-cases (r .ticks) (subst (Among q) (r .ends) m))
+
+pub no-read : {h : List Call} → Among (read 0 0) h → Round counts duo [] h → ⊥
+no-read m r = ⊎-elim (λ t. elim t [ ]) (λ t. ⊎-elim (λ t. elim t [ ]) (λ t. elim t [ ]) t) (of-round r m)
