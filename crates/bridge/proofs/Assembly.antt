@@ -12,15 +12,11 @@ use Rattle.loops.specs.Loops.{pick}
 use Rattle.fit.specs.Fit.{fit}
 use Rattle.shelf.proofs.FrameLaws.{pick-cases}
 use Rattle.register.specs.Promises.{after}
-use Rattle.paper.specs.declared.answer.Answer as register
-use Rattle.register.specs.Answers.{answerOf}
 use Rattle.model.specs.Parts.{Counts}
 use Rattle.paper.specs.Calls.{Call, Answer, done, refused, answerBy}
 use Rattle.model.specs.Calls.{refusal, acted, step}
 use Rattle.bridge.specs.View.{countsIn, viewBy, view}
-use Rattle.upkeep.specs.Paper.{paper}
 use Rattle.bridge.specs.Bridged.{Bridged}
-use Rattle.upkeep.proofs.PaperLaws.{Known, paper-number}
 use Rattle.bridge.proofs.Basics.{pick-then, pick-ap, pick-same}
 use Rattle.bridge.proofs.Numbers.{step-answer, step-state}
 
@@ -64,6 +60,5 @@ module _ (l : List ℕ) (F : fit l ≡ true) (q : Call) (number : ℕ) (agrees :
       }
 
   -- the calls that answer done
-  pub bridged-done : Known number → acted (countsIn l) (view l) q .answer ≡ done → (r : register.Answer) (l′ : List ℕ) → r ≡ answerOf number → l′ ≡ after number changed l
-      → Bridged l q (paper r) l′
-  bridged-done known e r l′ answer book = bridged (paper r) done l′ (ap paper answer ∙ paper-number known) (λ z. sym e) book
+  pub bridged-done : acted (countsIn l) (view l) q .answer ≡ done → (r : Answer) (l′ : List ℕ) → r ≡ answerBy number done → l′ ≡ after number changed l → Bridged l q r l′
+  bridged-done e r l′ answer book = bridged r done l′ answer (λ z. sym e) book

@@ -14,18 +14,18 @@ use Rattle.book.specs.declared.parts.Counts.{Counts}
 use Rattle.book.specs.Layout.{storedAt, crewAt, countsOf, home, stored}
 use Rattle.fit.specs.Fit.{fit}
 use Rattle.shelf.proofs.FrameLaws.{part-off}
-use Rattle.register.specs.Answers.{tells}
+use Rattle.register.specs.Answers.{told}
 use Rattle.register.specs.Calls.{settledHome, readRecord, readBook}
 use Rattle.register.specs.Promises as promises
 use Rattle.register.specs.Table as table
 use Rattle.register.proofs.Numbers.{read-done}
-use Rattle.upkeep.specs.Requests.{call, found, numberAt, replyTo, changedBy, bookAfter}
+use Rattle.upkeep.specs.Requests.{call, numberAt, doneAnswer, replyTo, changedBy, bookAfter}
 use Rattle.upkeep.proofs.NeverBadBook.{fit-number}
 use Rattle.upkeep.proofs.NeverBadAnswer.{settled, refused-stays}
 use Rattle.model.specs.Parts as model
 use Rattle.model.specs.Parts.{fresh, State}
 use Rattle.model.specs.Rules as rules
-use Rattle.paper.specs.Calls.{Call, read, write, tick, take, refresh}
+use Rattle.paper.specs.Calls.{Call, read, write, tick, take, refresh, reads, answerBy}
 use Rattle.model.specs.Calls.{refusal, reading, acted}
 use Rattle.model.specs.System.{after, run}
 use Rattle.bridge.specs.View.{toModel}
@@ -72,11 +72,11 @@ read-stores l F c k kc =
     λ j x y. merged-other D D _ (crewAt c) (settledHome l c k) j (inr (omega arith))
 
 read-tells : (l : List ℕ) → fit l ≡ true → (c k : ℕ) → numberAt l (call (read c k)) ≡ 0
-    → replyTo l (call (read c k)) ≡ found (tells (countsOf l .depots) (stored (bookAfter l (call (read c k))) (home l c) k))
-unfolding numberAt replyTo bookAfter changedBy promises.after
+    → replyTo l (call (read c k)) ≡ reads (told (countsOf l .depots) (stored (bookAfter l (call (read c k))) (home l c) k))
+unfolding numberAt replyTo doneAnswer answerBy bookAfter changedBy promises.after
 read-tells l F c k e =
-    ap found (pick-true _ _ (eq-eqb _ 0 e))
-    ∙ ap (λ (r : List ℕ). found (tells (countsOf l .depots) r))
+    pick-true _ _ (eq-eqb _ 0 e)
+    ∙ ap (λ (r : List ℕ). reads (told (countsOf l .depots) r))
     (sym (ap (λ (m : List ℕ). stored m (home l c) k) (pick-true _ _ (eq-eqb _ 0 e)) ∙ read-stores l F c k (read-done l c k e .crew)))
 
 -- ---- the demand
@@ -95,7 +95,7 @@ book-demand1 l n homes done = record {
   settled = λ h r a m c. settled c;
   tells-stored = λ h c k e.
       read-tells (after (ofBooks n homes) h) (followed l n homes done h .fits) c k e
-      ∙ ap (λ (m : Counts). found (tells (m .depots) (stored (after (ofBooks n homes) (read c k ∷ h)) (home (after (ofBooks n homes) h) c) k)))
+      ∙ ap (λ (m : Counts). reads (told (m .depots) (stored (after (ofBooks n homes) (read c k ∷ h)) (home (after (ofBooks n homes) h) c) k)))
       (ap back (followed l n homes done h .counts));
   refused = λ h r e. refused-stays (after (ofBooks n homes) h) r e;
 }

@@ -16,12 +16,12 @@ use Rattle.order.specs.Record.{vectorOf}
 use Rattle.loops.proofs.BoolLaws.{decided, pick-true, pick-false, eq-or-ne}
 use Rattle.book.specs.Layout.{crewAt, clockAt, stableAt, seenAt, storedAt, linkOf, heldAt, takenAt, slotAt, slot}
 use Rattle.shelf.proofs.FrameLaws.{Off, part-off}
-use Rattle.register.specs.Answers.{cut, tells}
+use Rattle.register.specs.Answers as answers
+use Rattle.register.specs.Answers.{cut}
 use Rattle.model.specs.Parts.{Counts, Version, Shelf, put, other, unwritten, emptyShelf, setCrew}
-use Rattle.paper.specs.Calls.{reads, read-unwritten, read-value}
+use Rattle.paper.specs.Calls.{read-unwritten, read-value}
 use Rattle.model.specs.Calls.{entries, told}
 use Rattle.bridge.specs.View.{entriesAt, versionOf, messageOf, listed, untakenOn, storeAt, shelfAt, viewBy}
-use Rattle.upkeep.specs.Paper.{paperFound, paperRead}
 use Rattle.bridge.proofs.Basics.{Same, pick-then, length-listed, listed-same, same-entries, shelf-path, state-path}
 use Rattle.bridge.proofs.Kept.{takenOn-same, homes-kept}
 use Rattle.bridge.proofs.Decoded.{version-entry, version-zeros, version-written}
@@ -96,16 +96,15 @@ cut-entries n u v few h =
     size : length (take n (cut n u)) ≡ n
     size = length-take n (cut n u) ∙ (unfold cut in omega arith)
 
-pub tells-here : (n : ℕ) (r : List ℕ) → n ≤ 4 → paperRead n (tells n r) ≡ reads (told n (versionOf n r))
-unfolding paperRead tells told paperFound
-tells-here n r few =
+pub told-here : (n : ℕ) (r : List ℕ) → n ≤ 4 → answers.told n r ≡ told n (versionOf n r)
+unfolding answers.told told
+told-here n r few =
     ⊎-elim
     (λ (z : zeros n (vectorOf r) ≡ true).
-    ap (λ (f : _). paperFound f (take n (cut n (vectorOf r)))) (pick-true _ _ z)
-    ∙ ap reads (ap read-unwritten same ∙ sym (pick-true _ _ (version-zeros n r ∙ z))))
+    pick-true _ _ z ∙ ap read-unwritten same ∙ sym (pick-true _ _ (version-zeros n r ∙ z)))
     (λ (z : zeros n (vectorOf r) ≡ false).
-    ap (λ (f : _). paperFound f (take n (cut n (vectorOf r)))) (pick-false _ _ z)
-    ∙ ap reads (ap₂ read-value (sym (ap (λ (v : Version). v .value) (version-written n r z))) same ∙ sym (pick-false _ _ (version-zeros n r ∙ z))))
+    pick-false _ _ z
+    ∙ ap₂ read-value (sym (ap (λ (v : Version). v .value) (version-written n r z))) same ∙ sym (pick-false _ _ (version-zeros n r ∙ z)))
     (decided (zeros n (vectorOf r)))
   where
     same : take n (cut n (vectorOf r)) ≡ entries n (versionOf n r .vector)

@@ -2,7 +2,7 @@
 -- Assumes nothing.
 use Prim.Native.Nat.{ℕ, _<_}
 use native.Mathlib.Omega.{arith}
-use mathlib.Core.Path.{_≡_, refl, sym, _∙_, ap, ap₂, subst}
+use mathlib.Core.Path.{_≡_, refl, sym, _∙_, ap₂, subst}
 use mathlib.Core.Bool.{true}
 use mathlib.Core.List.{List, [], _∷_, map}
 use Rattle.book.specs.declared.parts.Counts as book
@@ -18,9 +18,8 @@ use Rattle.model.specs.Follows.{Alike, Follows}
 use Rattle.model.proofs.Refusals.{read-passed, write-passed, waits-crew}
 use Rattle.model.proofs.Transfer.{sees}
 use Rattle.bridge.specs.View.{toModel, countsIn, view}
-use Rattle.upkeep.specs.Paper.{onPaper}
 use Rattle.bridge.specs.Bridged.{Bridged}
-use Rattle.upkeep.specs.Requests.{call, numberAt, changedBy, replyTo, bookAfter, replies, last}
+use Rattle.upkeep.specs.Requests.{call, numberAt, doneAnswer, changedBy, replyTo, bookAfter, replies, last}
 use Rattle.bridge.specs.Systems.{ofBooks}
 use Rattle.bridge.proofs.SetupView.{setup-open, setup-counts, setup-view}
 use Rattle.bridge.proofs.Numbers.{read-number, write-number, tick-number, take-number, refresh-number}
@@ -34,13 +33,13 @@ use Rattle.bridge.proofs.Agrees.{Agrees, clock-by, stable-by, seen-by, 
 -- ---- one call
 
 module _ (l : List ℕ) (F : fit l ≡ true) where
-  call-step : (q : Call) → Bridged l q (onPaper (countsIn l .depots) (replyTo l (call q))) (bookAfter l (call q))
-  unfolding numberAt changedBy bookAfter replyTo onPaper
-  call-step (read c k) = read-bridge l F c k _ _ (record { answer = refl; book = refl })
-  call-step (write c k value) = write-bridge l F c k value _ _ (record { answer = refl; book = refl })
-  call-step (tick d s) = tick-bridge l F d s _ _ (record { answer = refl; book = refl })
-  call-step (take d s from) = take-bridge l F d s from _ _ (record { answer = refl; book = refl })
-  call-step (refresh d s) = refresh-bridge l F d s _ _ (record { answer = refl; book = refl })
+  call-step : (q : Call) → Bridged l q (replyTo l (call q)) (bookAfter l (call q))
+  unfolding numberAt doneAnswer changedBy bookAfter replyTo
+  call-step (read c k) = read-bridge l F c k _ _ refl refl
+  call-step (write c k value) = write-bridge l F c k value _ _ refl refl
+  call-step (tick d s) = tick-bridge l F d s _ _ refl refl
+  call-step (take d s from) = take-bridge l F d s from _ _ refl refl
+  call-step (refresh d s) = refresh-bridge l F d s _ _ refl refl
 
   call-number : (q : Call) → numberAt l (call q) ≡ refusal (countsIn l) (view l) q
   unfolding numberAt
@@ -56,9 +55,9 @@ module _ (π : Counts) (σ : State) (l : List ℕ) (A : Agrees π σ l) where
   number-by : (q : Call) → numberAt l (call q) ≡ refusal π σ q
   number-by q = call-number l (A .fits) q ∙ ap₂ (λ (p : Counts) (τ : State). refusal p τ q) (A .counts) (A .views)
 
-  answer-by : (q : Call) → onPaper (π .depots) (replyTo l (call q)) ≡ step π σ q .answer
+  answer-by : (q : Call) → replyTo l (call q) ≡ step π σ q .answer
   answer-by q =
-      ap (λ (p : Counts). onPaper (p .depots) (replyTo l (call q))) (sym (A .counts)) ∙ call-step l (A .fits) q .answers
+      call-step l (A .fits) q .answers
       ∙ ap₂ (λ (p : Counts) (τ : State). step p τ q .answer) (A .counts) (A .views)
 
   agrees-next : (q : Call) → Agrees π (step π σ q .state) (bookAfter l (call q))
@@ -129,7 +128,7 @@ module _ (l₀ : List ℕ) (n : book.Counts) (homes : List ℕ) (done : table.se
 -- ---- calls one after the other, oldest first
 
 module _ (π : Counts) where
-  pub replies-model : (σ : State) (l : List ℕ) (h : List Call) → Agrees π σ l → map (onPaper (π .depots)) (replies l (map call h)) ≡ answers π σ h
+  pub replies-model : (σ : State) (l : List ℕ) (h : List Call) → Agrees π σ l → replies l (map call h) ≡ answers π σ h
   unfolding replies answers
   replies-model σ l [] A = refl
   replies-model σ l (q ∷ h) A =

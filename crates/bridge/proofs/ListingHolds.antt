@@ -11,17 +11,15 @@ use Rattle.loops.specs.Loops.{pick, every}
 use Rattle.loops.proofs.BoolLaws.{pick-true}
 use Rattle.book.specs.Layout.{bookWords, stable}
 use Rattle.fit.specs.Fit.{between, countsFit}
-use Rattle.register.specs.Answers.{answerOf}
 use Rattle.register.specs.Calls.{setUp}
 use Rattle.register.specs.Promises as promises
 use Rattle.register.specs.Table as table
 use Rattle.model.specs.Parts.{fresh}
-use Rattle.paper.specs.Calls.{Call, Answer, done, first}
+use Rattle.paper.specs.Calls.{Call, Answer, done, first, answerBy}
 use Rattle.model.specs.Cases as cases
 use Rattle.model.proofs.Worked.{listing-holds, caseC-before, caseC-after}
 use Rattle.bridge.specs.View.{toModel}
-use Rattle.upkeep.specs.Requests.{setup, call, numberAt, changedBy, replyTo, bookAfter, replies, last}
-use Rattle.upkeep.specs.Paper.{paper, onPaper}
+use Rattle.upkeep.specs.Requests.{setup, call, numberAt, doneAnswer, changedBy, replyTo, bookAfter, replies, last}
 use Rattle.bridge.specs.Listing.{counts, homes, linesToB, lines, Listed}
 use Rattle.bridge.proofs.Agrees.{Agrees, stable-by}
 use Rattle.bridge.proofs.Followed.{agrees-start, replies-model, last-model}
@@ -38,15 +36,15 @@ module _ (l : List ℕ) (full : length l ≡ bookWords) where
   unfolding bookAfter numberAt changedBy promises.after
   set-book = pick-true _ _ (eq-eqb _ 0 set)
 
-  set-reply : onPaper 2 (replyTo l (setup counts homes)) ≡ done
-  unfolding replyTo onPaper answerOf paper pick
-  set-reply = ap (λ (k : ℕ). paper (answerOf k)) set
+  set-reply : replyTo l (setup counts homes) ≡ done
+  unfolding replyTo answerBy numberAt doneAnswer pick
+  set-reply = ap (λ (k : ℕ). answerBy k done) set
 
-  listed-lines : map (onPaper 2) (replies l (setup counts homes ∷ map call cases.listing)) ≡ done ∷ cases.listingAnswers
+  listed-lines : replies l (setup counts homes ∷ map call cases.listing) ≡ done ∷ cases.listingAnswers
   unfolding replies counts homes cases.counts cases.homes
   listed-lines =
       ap₂ (λ (x : Answer) (y : List Answer). x ∷ y) set-reply
-      (ap (λ (b : List ℕ). map (onPaper 2) (replies b (map call cases.listing))) set-book
+      (ap (λ (b : List ℕ). replies b (map call cases.listing)) set-book
       ∙ replies-model (toModel counts) (fresh homes) (setUp counts homes) cases.listing start
       ∙ listing-holds)
 

@@ -15,27 +15,23 @@ use Rattle.order.proofs.VectorLaws.{length-merged, merged-other, merged-entry}
 use Rattle.book.specs.Layout.{crewAt, home}
 use Rattle.fit.specs.Fit.{fit}
 use Rattle.shelf.proofs.FrameLaws.{off-sides}
-use Rattle.register.specs.Answers.{tells}
+use Rattle.register.specs.Answers as answers
 use Rattle.register.specs.Table.{readNumber}
 use Rattle.register.specs.Calls.{settledHome, readRecord, readBook}
-use Rattle.register.specs.Promises.{Read}
-use Rattle.paper.specs.declared.answer.ReadAnswer.{ReadAnswer}
+use Rattle.register.specs.Promises.{after}
 use Rattle.register.proofs.Numbers.{ReadDone, read-done}
 use Rattle.upkeep.proofs.FitKept.{read-fit}
 use Rattle.model.specs.Parts.{Version, State, setShelf, setCrew}
 use Rattle.model.specs.Rules.{settled, settle}
-use Rattle.paper.specs.Calls.{read, reads}
+use Rattle.paper.specs.Calls.{read, Answer, reads, answerBy}
 use Rattle.model.specs.Calls.{told, acted, reading, homeShelf, shelfOf}
 use Rattle.bridge.specs.View.{countsIn, entriesAt, versionOf, viewBy, view}
-use Rattle.upkeep.specs.Paper.{paperRead}
 use Rattle.bridge.specs.Bridged.{Bridged}
-use Rattle.upkeep.specs.Requests.{call, numberAt}
-use Rattle.upkeep.proofs.PaperLaws.{number-known, paper-read}
 use Rattle.bridge.proofs.Sound.{sound}
 use Rattle.bridge.proofs.Looks.{crew-here, home-here}
 use Rattle.bridge.proofs.Decoded.{version-entry, version-beyond}
 use Rattle.bridge.proofs.Numbers.{read-number}
-use Rattle.bridge.proofs.CrewView.{crew-view, tells-here}
+use Rattle.bridge.proofs.CrewView.{crew-view, told-here}
 use Rattle.bridge.proofs.HomeView.{crew-agrees, home-settled, home-below, home-size, home-stored}
 use Rattle.bridge.proofs.Assembly.{counts-same, view-by, Does, bridged}
 
@@ -98,20 +94,18 @@ module _ (l : List ℕ) (F : fit l ≡ true) (c k : ℕ) where
         ∙ ap₂ (λ (v : Version) (σ : State). setCrew c (merged (view l .crew c) (v .vector)) σ) (sym stored-here) (home-settled l F c k (o .crew))
         ∙ ap left-by (sym at-home)
 
-    tells-same : paperRead (countsIn l .depots) (tells (countsIn l .depots) (readRecord l c k)) ≡ acted (countsIn l) (view l) (read c k) .answer
+    tells-same : reads (answers.told (countsIn l .depots) (readRecord l c k)) ≡ acted (countsIn l) (view l) (read c k) .answer
     unfolding acted reading homeShelf shelfOf r
     tells-same =
-        tells-here (countsIn l .depots) (readRecord l c k) (sound l F .small .depots)
+        ap reads (told-here (countsIn l .depots) (readRecord l c k) (sound l F .small .depots))
         ∙ ap (λ (v : Version). reads (told (countsIn l .depots) v)) (sym stored-here)
         ∙ ap (λ (d : ℕ). reads (told (countsIn l .depots) (settled (countsIn l .depots) d (view l .crew c) (view l .shelf d (k % countsIn l .shelves)) .store k))) (sym at-home)
 
   does : readNumber l c k ≡ 0 → Does l (read c k) (readBook l c k)
   does z = record { leaves = leaves (read-done l c k z); counts = counted (read-done l c k z); fits = read-fit l c k F z }
 
-  pub read-bridge : (a : ReadAnswer) (l′ : List ℕ) → Read l c k a l′ → Bridged l (read c k) (paperRead (countsIn l .depots) a) l′
-  unfolding numberAt
-  read-bridge a l′ t =
-      bridged l F (read c k) (readNumber l c k) (read-number l F c k) (readBook l c k) does (paperRead (countsIn l .depots) a) _ l′
-      (ap (paperRead (countsIn l .depots)) (t .answer) ∙ paper-read (countsIn l .depots) _ (number-known l (call (read c k))))
-      (λ z. tells-same (read-done l c k z))
-      (t .book)
+  pub read-bridge :
+      (a : Answer) (l′ : List ℕ) → a ≡ answerBy (readNumber l c k) (reads (answers.told (countsIn l .depots) (readRecord l c k))) →
+      l′ ≡ after (readNumber l c k) (readBook l c k) l → Bridged l (read c k) a l′
+  read-bridge a l′ answer book =
+      bridged l F (read c k) (readNumber l c k) (read-number l F c k) (readBook l c k) does a _ l′ answer (λ z. tells-same (read-done l c k z)) book

@@ -12,20 +12,16 @@ use Rattle.fit.specs.Fit.{fit}
 use Rattle.links.specs.Send as words
 use Rattle.register.specs.Table.{refreshNumber}
 use Rattle.register.specs.Calls.{refreshBook}
-use Rattle.register.specs.Promises.{Refresh}
-use Rattle.paper.specs.declared.answer.Answer as register
+use Rattle.register.specs.Promises.{after}
 use Rattle.register.proofs.Numbers.{refresh-done}
 use Rattle.upkeep.proofs.FitKept.{refresh-fit}
 use Rattle.model.specs.Parts.{Counts, Shelf, end, lowest, other}
 use Rattle.model.specs.Rules.{lowestSeen}
-use Rattle.paper.specs.Calls.{refresh}
+use Rattle.paper.specs.Calls.{refresh, Answer, done, answerBy}
 use Rattle.model.specs.Calls.{acted}
 use Rattle.model.proofs.Places.{Other, other-intro}
 use Rattle.bridge.specs.View.{countsIn, shelfAt, viewBy, view}
-use Rattle.upkeep.specs.Paper.{paper}
 use Rattle.bridge.specs.Bridged.{Bridged}
-use Rattle.upkeep.specs.Requests.{call, numberAt}
-use Rattle.upkeep.proofs.PaperLaws.{number-known}
 use Rattle.bridge.proofs.Sound.{sound}
 use Rattle.bridge.proofs.Looks.{shelf-here}
 use Rattle.bridge.proofs.Numbers.{refresh-number}
@@ -58,7 +54,7 @@ module _ (l : List ℕ) (F : fit l ≡ true) (d s : ℕ) where
         fits = refresh-fit l d s F z;
       }
 
-  pub refresh-bridge : (r : register.Answer) (l′ : List ℕ) → Refresh l d s r l′ → Bridged l (refresh d s) (paper r) l′
-  unfolding numberAt acted
-  refresh-bridge r l′ t =
-      bridged-done l F (refresh d s) (refreshNumber l d s) (refresh-number l F d s) (refreshBook l d s) does (number-known l (call (refresh d s))) refl r l′ (t .answer) (t .book)
+  pub refresh-bridge : (r : Answer) (l′ : List ℕ) → r ≡ answerBy (refreshNumber l d s) done → l′ ≡ after (refreshNumber l d s) (refreshBook l d s) l → Bridged l (refresh d s) r l′
+  unfolding acted
+  refresh-bridge r l′ answer book =
+      bridged-done l F (refresh d s) (refreshNumber l d s) (refresh-number l F d s) (refreshBook l d s) does refl r l′ answer book

@@ -17,16 +17,13 @@ use Rattle.fit.proofs.FitLaws.{counts-within}
 use Rattle.register.specs.Calls.{setUp}
 use Rattle.register.specs.Promises.{after, Setup}
 use Rattle.register.specs.Table as table
-use Rattle.paper.specs.declared.answer.Answer as register
+use Rattle.paper.specs.declared.answer.Answer as plain
+use Rattle.paper.specs.Answers.{paper}
 use Rattle.upkeep.proofs.FitSetup.{setup-fit}
 use Rattle.paper.specs.Calls.{done, first, answerBy}
-use Rattle.upkeep.specs.Requests as asked
-use Rattle.upkeep.specs.Requests.{numberAt}
 use Rattle.model.specs.Calls as model
 use Rattle.bridge.specs.View.{toModel, countsIn, view}
-use Rattle.upkeep.specs.Paper.{paper}
 use Rattle.bridge.specs.Bridged.{BridgedSetup}
-use Rattle.upkeep.proofs.PaperLaws.{number-known, paper-number}
 use Rattle.bridge.proofs.SetupView.{setup-open, setup-counts, setup-view}
 
 one-test : (a b c e q : Bool) → not (a && (b && (c && e))) || not q ≡ not (a && (b && (c && (e && q))))
@@ -47,10 +44,10 @@ module _ (l : List ℕ) (full : length l ≡ bookWords) (n : Counts) (homes : Li
       ∙ ap (λ (t : Bool). pick t 11 (pick (not (every (n .crews) (λ c. ltb (getD homes c 0) (n .depots)))) 2 0))
       (one-test (between 1 (n .depots) 4) (between 1 (n .shelves) 4) (between 1 (n .bearings) mostBearings) (between 1 (n .crews) 16) (eqb (length homes) (n .crews)))
 
-  pub setup-bridge : (r : register.Answer) (l′ : List ℕ) → Setup l n homes r l′ → BridgedSetup l n homes (paper r) l′
-  unfolding after numberAt
+  pub setup-bridge : (r : plain.Answer) (l′ : List ℕ) → Setup l n homes r l′ → BridgedSetup l n homes (paper r) l′
+  unfolding after
   setup-bridge r l′ t = record {
-    answers = ap paper (t .answer) ∙ paper-number (number-known l (asked.setup n homes)) ∙ ap (λ (k : ℕ). answerBy k done) setup-number;
+    answers = t .answer ∙ ap (λ (k : ℕ). answerBy k done) setup-number;
     leaves = λ z. ap view (set z) ∙ setup-view (setup-open l n homes (setup-number ∙ z));
     counts = λ z.
         let u = setup-open l n homes (setup-number ∙ z) in

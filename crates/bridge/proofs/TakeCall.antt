@@ -8,20 +8,16 @@ use mathlib.Core.List.{List}
 use Rattle.fit.specs.Fit.{fit}
 use Rattle.register.specs.Table.{takeNumber}
 use Rattle.register.specs.Calls.{takeBook}
-use Rattle.register.specs.Promises.{Take}
-use Rattle.paper.specs.declared.answer.Answer as register
+use Rattle.register.specs.Promises.{after}
 use Rattle.register.proofs.Numbers.{take-done}
 use Rattle.upkeep.proofs.FitKept.{take-fit}
 use Rattle.model.specs.Parts.{Shelf, setShelf}
 use Rattle.model.specs.Rules.{taking}
-use Rattle.paper.specs.Calls.{take}
+use Rattle.paper.specs.Calls.{take, Answer, done, answerBy}
 use Rattle.model.specs.Calls.{acted}
 use Rattle.model.proofs.Places.{Other}
 use Rattle.bridge.specs.View.{countsIn, view}
-use Rattle.upkeep.specs.Paper.{paper}
 use Rattle.bridge.specs.Bridged.{Bridged}
-use Rattle.upkeep.specs.Requests.{call, numberAt}
-use Rattle.upkeep.proofs.PaperLaws.{number-known}
 use Rattle.bridge.proofs.Sound.{sound}
 use Rattle.bridge.proofs.Looks.{shelf-here}
 use Rattle.bridge.proofs.Numbers.{take-number}
@@ -45,7 +41,7 @@ module _ (l : List ℕ) (F : fit l ≡ true) (d s from : ℕ) where
         fits = take-fit l d s from F z;
       }
 
-  pub take-bridge : (r : register.Answer) (l′ : List ℕ) → Take l d s from r l′ → Bridged l (take d s from) (paper r) l′
-  unfolding numberAt acted
-  take-bridge r l′ t =
-      bridged-done l F (take d s from) (takeNumber l d s from) (take-number l F d s from) (takeBook l d s from) does (number-known l (call (take d s from))) refl r l′ (t .answer) (t .book)
+  pub take-bridge : (r : Answer) (l′ : List ℕ) → r ≡ answerBy (takeNumber l d s from) done → l′ ≡ after (takeNumber l d s from) (takeBook l d s from) l → Bridged l (take d s from) r l′
+  unfolding acted
+  take-bridge r l′ answer book =
+      bridged-done l F (take d s from) (takeNumber l d s from) (take-number l F d s from) (takeBook l d s from) does refl r l′ answer book

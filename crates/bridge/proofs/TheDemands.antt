@@ -1,17 +1,16 @@
 -- The demands of books, all together: nothing is assumed but that a setup was done.
 -- Assumes nothing.
 use Prim.Native.Nat.{ℕ}
-use mathlib.Core.Path.{_≡_, _∙_, ap, ap₂}
+use mathlib.Core.Path.{_≡_, _∙_, ap}
 use mathlib.Core.List.{List, [], _∷_, _++_}
 use Rattle.book.specs.declared.parts.Counts.{Counts}
 use Rattle.register.specs.Table.{setupNumber}
 use Rattle.paper.specs.Calls.{Answer}
 use Rattle.upkeep.specs.Requests.{Request, replyTo, bookAfter}
-use Rattle.upkeep.specs.Paper.{onPaper}
 use Rattle.line.specs.Reading.{Reading}
 use Rattle.events.specs.Answering as events
-use Rattle.events.specs.Answering.{lineFeed, printed, eventSays, eventBook, readingSays, readingBook, answerTo}
-use Rattle.model.specs.Parts as model
+use Rattle.reply.specs.Printed.{printed}
+use Rattle.events.specs.Answering.{lineFeed, eventSays, eventBook, readingSays, readingBook, answerTo}
 use Rattle.model.specs.System.{after}
 use Rattle.model.proofs.TheDemands as met
 use Rattle.model.proofs.Transfer as transfer
@@ -28,7 +27,7 @@ unfolding answerTo events.bookAfter readingSays readingBook eventSays eventBook 
 desk-as-model l n homes done = record {
   says = λ h line e ns q r a.
       ap (λ (x : Reading). readingSays (bookOf n homes h) x ++ (lineFeed ∷ [])) r
-      ∙ ap₂ (λ (D : ℕ) (x : Request). printed (onPaper D (replyTo (bookOf n homes h) x)) ++ (lineFeed ∷ [])) (ap (λ (π : model.Counts). π .depots) (followed l n homes done h .counts)) a
+      ∙ ap (λ (x : Request). printed (replyTo (bookOf n homes h) x) ++ (lineFeed ∷ [])) a
       ∙ ap (λ (x : Answer). printed x ++ (lineFeed ∷ [])) (transfer.alike (book-follows l n homes done) h .answer q);
   leaves = λ h line e ns q r a. ap (readingBook (bookOf n homes h)) r ∙ ap (bookAfter (bookOf n homes h)) a;
 }

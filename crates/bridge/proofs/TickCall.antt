@@ -12,19 +12,15 @@ use Rattle.fit.specs.Fit.{fit}
 use Rattle.links.specs.Send.{beat}
 use Rattle.register.specs.Table.{tickNumber}
 use Rattle.register.specs.Calls.{tickBook}
-use Rattle.register.specs.Promises.{Tick}
-use Rattle.paper.specs.declared.answer.Answer as register
+use Rattle.register.specs.Promises.{after}
 use Rattle.register.proofs.Numbers.{tick-done}
 use Rattle.upkeep.proofs.FitKept.{tick-fit}
 use Rattle.model.specs.Parts.{heartbeat, Shelf}
 use Rattle.model.specs.Rules.{send}
-use Rattle.paper.specs.Calls.{tick}
+use Rattle.paper.specs.Calls.{tick, Answer, done, answerBy}
 use Rattle.model.specs.Calls.{acted}
 use Rattle.bridge.specs.View.{countsIn, messageOf, shelfAt, view}
-use Rattle.upkeep.specs.Paper.{paper}
 use Rattle.bridge.specs.Bridged.{Bridged}
-use Rattle.upkeep.specs.Requests.{call, numberAt}
-use Rattle.upkeep.proofs.PaperLaws.{number-known}
 use Rattle.bridge.proofs.Sound.{sound}
 use Rattle.bridge.proofs.Looks.{shelf-here, roomy-open}
 use Rattle.bridge.proofs.Numbers.{tick-number}
@@ -49,6 +45,6 @@ module _ (l : List ℕ) (F : fit l ≡ true) (d s : ℕ) where
         fits = tick-fit l d s F z;
       }
 
-  pub tick-bridge : (r : register.Answer) (l′ : List ℕ) → Tick l d s r l′ → Bridged l (tick d s) (paper r) l′
-  unfolding numberAt acted
-  tick-bridge r l′ t = bridged-done l F (tick d s) (tickNumber l d s) (tick-number l F d s) (tickBook l d s) does (number-known l (call (tick d s))) refl r l′ (t .answer) (t .book)
+  pub tick-bridge : (r : Answer) (l′ : List ℕ) → r ≡ answerBy (tickNumber l d s) done → l′ ≡ after (tickNumber l d s) (tickBook l d s) l → Bridged l (tick d s) r l′
+  unfolding acted
+  tick-bridge r l′ answer book = bridged-done l F (tick d s) (tickNumber l d s) (tick-number l F d s) (tickBook l d s) does refl r l′ answer book

@@ -19,11 +19,10 @@ use Rattle.book.specs.Layout.{copyKind, crewAt, clockAt, storedAt, countsOf, ho
 use Rattle.fit.specs.Fit.{fit}
 use Rattle.shelf.specs.Show.{keptIn}
 use Rattle.shelf.proofs.FrameLaws.{part-off, kept-in-low}
-use Rattle.register.specs.Answers.{writes}
+use Rattle.register.specs.Answers.{written}
 use Rattle.register.specs.Table.{writeNumber}
 use Rattle.register.specs.Calls.{settledHome, newStamp, madeRecord, writtenCrew, isCurrent, writeBook}
-use Rattle.register.specs.Promises as promises
-use Rattle.paper.specs.declared.answer.WriteAnswer.{WriteAnswer}
+use Rattle.register.specs.Promises.{after}
 use Rattle.register.proofs.FitParts.{Whole, whole-open}
 use Rattle.upkeep.proofs.FitStored.{crew-set-whole, kept-in-whole}
 use Rattle.upkeep.proofs.FitKept.{settled-home-whole}
@@ -33,14 +32,10 @@ use Rattle.register.proofs.FitReady.{out-stays}
 use Rattle.register.proofs.MadeLaws.{length-made, made-record-of}
 use Rattle.model.specs.Parts.{Version, Write, copy, Shelf, State, put, rank, setCrew}
 use Rattle.model.specs.Rules.{shown, settled, settle, keep, send}
-use Rattle.paper.specs.Calls.{write, current, superseded}
+use Rattle.paper.specs.Calls.{write, Answer, current, superseded, answerBy}
 use Rattle.model.specs.Calls.{acted, made, answered, homeShelf, shelfOf}
 use Rattle.bridge.specs.View.{countsIn, entriesAt, writeOf, shelfAt, viewBy, view}
-use Rattle.upkeep.specs.Paper.{paperWrite}
 use Rattle.bridge.specs.Bridged.{Bridged}
-use Rattle.bridge.proofs.Basics.{pick-ap}
-use Rattle.upkeep.specs.Requests.{call, numberAt}
-use Rattle.upkeep.proofs.PaperLaws.{number-known, paper-write}
 use Rattle.bridge.proofs.Sound.{sound, sound-whole}
 use Rattle.bridge.proofs.Looks.{shelf-here, home-here, roomy-open}
 use Rattle.bridge.proofs.Decoded.{version-above}
@@ -216,11 +211,10 @@ module _ (l : List ℕ) (F : fit l ≡ true) (c k value : ℕ) where
         ∙ ap₂ (λ (a b : Version). above (countsIn l .depots) (rank a) (rank b))
         (ap (λ (w : Write). w .version) (made-write l F c k value (o .crew))) (sym (home-stored l F c k (o .crew) (o .bearing)))
 
-    tells : paperWrite (writes (newStamp l c k) (isCurrent l c k value)) ≡ acted (countsIn l) (view l) (write c k value) .answer
-    unfolding acted made answered homeShelf shelfOf writes paperWrite newVector
+    tells : written (newStamp l c k) (isCurrent l c k value) ≡ acted (countsIn l) (view l) (write c k value) .answer
+    unfolding acted made answered homeShelf shelfOf written newVector
     tells =
-        pick-ap paperWrite (isCurrent l c k value) _ _
-        ∙ ap₂ (λ (b : Bool) (t : ℕ). pick b (current t) (superseded t)) tests (sym (new-own l F c k value (o .crew)))
+        ap₂ (λ (b : Bool) (t : ℕ). pick b (current t) (superseded t)) tests (sym (new-own l F c k value (o .crew)))
         ∙ sym (ap₂ (λ (e t : ℕ).
         let v : Version = record { value = value; origin = e; vector = put e (suc t) (view l .crew c) } in
         pick (above (countsIn l .depots) (rank v) (rank (settled (countsIn l .depots) e (view l .crew c) (view l .shelf e s) .store k))) (current (v .vector e)) (superseded (v .vector e)))
@@ -229,9 +223,8 @@ module _ (l : List ℕ) (F : fit l ≡ true) (c k value : ℕ) where
   does : writeNumber l c k value ≡ 0 → Does l (write c k value) (writeBook l c k value)
   does z = record { leaves = leaves z; counts = counted z; fits = write-fit l c k value F z }
 
-  pub write-bridge : (a : WriteAnswer) (l′ : List ℕ) → promises.Write l c k value a l′ → Bridged l (write c k value) (paperWrite a) l′
-  unfolding numberAt
-  write-bridge a l′ t =
-      bridged l F (write c k value) (writeNumber l c k value) (write-number l F c k value) (writeBook l c k value) does (paperWrite a) _ l′
-      (ap paperWrite (t .answer) ∙ paper-write _ (number-known l (call (write c k value))))
-      tells (t .book)
+  pub write-bridge :
+      (a : Answer) (l′ : List ℕ) → a ≡ answerBy (writeNumber l c k value) (written (newStamp l c k) (isCurrent l c k value)) →
+      l′ ≡ after (writeNumber l c k value) (writeBook l c k value) l → Bridged l (write c k value) a l′
+  write-bridge a l′ answer book =
+      bridged l F (write c k value) (writeNumber l c k value) (write-number l F c k value) (writeBook l c k value) does a _ l′ answer tells book

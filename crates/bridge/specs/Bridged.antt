@@ -10,14 +10,14 @@ use Rattle.book.specs.declared.parts.Counts.{Counts}
 use Rattle.book.specs.Layout.{bookWords}
 use Rattle.fit.specs.Fit.{fit}
 use Rattle.register.specs.Promises as promises
-use Rattle.paper.specs.declared.answer.Answer as register
+use Rattle.paper.specs.Answers.{paper, paperRead, paperWrite}
+use Rattle.paper.specs.declared.answer.Answer as plain
 use Rattle.paper.specs.declared.answer.ReadAnswer.{ReadAnswer}
 use Rattle.paper.specs.declared.answer.WriteAnswer.{WriteAnswer}
 use Rattle.model.specs.Parts.{fresh}
 use Rattle.paper.specs.Calls.{Call, read, write, tick, take, refresh, Answer, done, answerBy}
 use Rattle.model.specs.Calls.{setup, step}
 use Rattle.bridge.specs.View.{toModel, countsIn, view}
-use Rattle.upkeep.specs.Paper.{paper, paperRead, paperWrite}
 
 pub record Bridged (l : List ℕ) (q : Call) (answer : Answer) (l′ : List ℕ) : Type 0 where
   pub answers : answer ≡ step (countsIn l) (view l) q .answer
@@ -36,14 +36,14 @@ pub record BridgedSetup (l : List ℕ) (n : Counts) (homes : List ℕ) (answer :
 
 -- the bridge: for every fit book and all inputs, what the promise of a call says is what the model does; for setup, every book of full length
 pub record Bridge : Type 0 where
-  pub of-setup : (l : List ℕ) → length l ≡ bookWords → (n : Counts) (homes : List ℕ) (r : register.Answer) (l′ : List ℕ) → promises.Setup l n homes r l′
+  pub of-setup : (l : List ℕ) → length l ≡ bookWords → (n : Counts) (homes : List ℕ) (r : plain.Answer) (l′ : List ℕ) → promises.Setup l n homes r l′
       → BridgedSetup l n homes (paper r) l′
   pub of-read : (l : List ℕ) → fit l ≡ true → (c k : ℕ) (r : ReadAnswer) (l′ : List ℕ) → promises.Read l c k r l′
-      → Bridged l (read c k) (paperRead (countsIn l .depots) r) l′
+      → Bridged l (read c k) (paperRead r) l′
   pub of-write : (l : List ℕ) → fit l ≡ true → (c k value : ℕ) (r : WriteAnswer) (l′ : List ℕ) → promises.Write l c k value r l′
       → Bridged l (write c k value) (paperWrite r) l′
-  pub of-tick : (l : List ℕ) → fit l ≡ true → (d s : ℕ) (r : register.Answer) (l′ : List ℕ) → promises.Tick l d s r l′ → Bridged l (tick d s) (paper r) l′
-  pub of-take : (l : List ℕ) → fit l ≡ true → (d s from : ℕ) (r : register.Answer) (l′ : List ℕ) → promises.Take l d s from r l′
+  pub of-tick : (l : List ℕ) → fit l ≡ true → (d s : ℕ) (r : plain.Answer) (l′ : List ℕ) → promises.Tick l d s r l′ → Bridged l (tick d s) (paper r) l′
+  pub of-take : (l : List ℕ) → fit l ≡ true → (d s from : ℕ) (r : plain.Answer) (l′ : List ℕ) → promises.Take l d s from r l′
       → Bridged l (take d s from) (paper r) l′
-  pub of-refresh : (l : List ℕ) → fit l ≡ true → (d s : ℕ) (r : register.Answer) (l′ : List ℕ) → promises.Refresh l d s r l′
+  pub of-refresh : (l : List ℕ) → fit l ≡ true → (d s : ℕ) (r : plain.Answer) (l′ : List ℕ) → promises.Refresh l d s r l′
       → Bridged l (refresh d s) (paper r) l′

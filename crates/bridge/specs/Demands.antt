@@ -7,18 +7,20 @@ use mathlib.Core.List.{List, [], _∷_, _++_}
 use Rattle.book.specs.declared.parts.Counts.{Counts}
 use Rattle.book.specs.Layout.{countsOf, home, linkOf, held, taken, stored}
 use Rattle.fit.specs.Fit.{fit}
-use Rattle.register.specs.Answers.{tells}
+use Rattle.register.specs.Answers.{told}
 use Rattle.register.specs.Calls.{setUp}
-use Rattle.paper.specs.Calls.{Call, read}
+use Rattle.paper.specs.Calls.{Call, read, Answer, reads}
 use Rattle.paper.specs.declared.request.Event.{Event}
 use Rattle.line.specs.Reading.{good, reading}
 use Rattle.events.specs.Answering as events
-use Rattle.events.specs.Answering.{lineFeed, requestOf, printed, answerTo}
+use Rattle.calls.specs.Performed.{requestOf}
+use Rattle.reply.specs.Printed.{printed}
+use Rattle.events.specs.Answering.{lineFeed, answerTo}
 use Rattle.model.specs.Calls.{refusal, step}
 use Rattle.model.specs.System.{after, ofModel}
 use Rattle.model.specs.Demands as demands
 use Rattle.bridge.specs.View.{toModel, view}
-use Rattle.upkeep.specs.Requests.{Request, call, Reply, found, Called, numberAt, replyTo, bookAfter}
+use Rattle.upkeep.specs.Requests.{Request, call, Called, numberAt, replyTo, bookAfter}
 use Rattle.bridge.specs.Systems.{ofBooks}
 
 module _ (n : Counts) (homes : List ℕ) where
@@ -37,10 +39,10 @@ module _ (n : Counts) (homes : List ℕ) where
     -- so no request is answered BAD BOOK
     pub never-bad : (h : List Call) (r : Request) → numberAt (bookOf h) r ≡ 1 → ⊥
     -- what a promise leaves open is one reply and one book
-    pub settled : (h : List Call) (r : Request) (a : Reply) (l : List ℕ) → Called (bookOf h) l r a → (a ≡ replyTo (bookOf h) r) × (l ≡ bookAfter (bookOf h) r)
+    pub settled : (h : List Call) (r : Request) (a : Answer) (l : List ℕ) → Called (bookOf h) l r a → (a ≡ replyTo (bookOf h) r) × (l ≡ bookAfter (bookOf h) r)
     -- a read that is done tells of the record that its home shelf then stores, word for word
     pub tells-stored : (h : List Call) (c k : ℕ) → numberAt (bookOf h) (call (read c k)) ≡ 0
-        → replyTo (bookOf h) (call (read c k)) ≡ found (tells (n .depots) (stored (bookOf (read c k ∷ h)) (home (bookOf h) c) k))
+        → replyTo (bookOf h) (call (read c k)) ≡ reads (told (n .depots) (stored (bookOf (read c k ∷ h)) (home (bookOf h) c) k))
     -- a refused request moves not one word
     pub refused : (h : List Call) (r : Request) → (numberAt (bookOf h) r ≡ 0 → ⊥) → bookAfter (bookOf h) r ≡ bookOf h
 

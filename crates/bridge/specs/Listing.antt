@@ -8,7 +8,6 @@ use Rattle.book.specs.Layout.{stable}
 use Rattle.paper.specs.Calls.{done}
 use Rattle.model.specs.Cases.{listingToB, listing, listingAnswers}
 use Rattle.upkeep.specs.Requests.{Request, setup, call, replies, last}
-use Rattle.upkeep.specs.Paper.{onPaper}
 
 -- S 2 2 4 2 0 1: two depots, two shelves, four bearings, two crews with homes 0 and 1
 unfoldable pub counts : Counts
@@ -26,7 +25,7 @@ lines = setup counts homes ∷ map call listing
 
 -- what the promises say of any book l of the right length, asked these lines
 pub record Listed (l : List ℕ) : Type 0 where
-  pub answers : map (onPaper 2) (replies l lines) ≡ done ∷ listingAnswers
+  pub answers : replies l lines ≡ done ∷ listingAnswers
   -- in (c) shelf 0's stable entry for depot 0, at depot 1, rises from 1 to 2
   pub before : stable (last l linesToB) 1 0 0 ≡ 1
   pub after : stable (last l lines) 1 0 0 ≡ 2

@@ -12,14 +12,13 @@ use Rattle.model.specs.System.{System, after}
 use Rattle.bridge.specs.View.{versionOf}
 use Rattle.upkeep.specs.Requests.{Request, setup, call, numberAt, replyTo, bookAfter}
 use Rattle.bridge.specs.Histories.{book, NoneSetUp, callsIn}
-use Rattle.upkeep.specs.Paper.{onPaper}
 
 abbrev pub ofBooks : Counts → List ℕ → System
 ofBooks n homes = record {
   State = List ℕ;
   start = setUp n homes;
   number = λ l q. numberAt l (call q);
-  answer = λ l q. onPaper (n .depots) (replyTo l (call q));
+  answer = λ l q. replyTo l (call q);
   next = λ l q. bookAfter l (call q);
   home = home;
   crew = crewVector;
