@@ -27,14 +27,4 @@ returns-4 c =
     (⊎-elim (λ w. rw (eq-eqb _ _ (w .0 .taken)) (sym (w .1 .ensures) ∙ w .2 .left)) (λ w. and-stop _ (ne-eqb _ _ (w .left))) (c .if3 .came)))
 
 pub days-in-month-spec : {M : Type 1} → statement M
-days-in-month-spec =
-    tie.close
-    (tie.spec
-    returns
-    returns-2
-    (λ c κs. search needs)
-    returns-3
-    (λ c. search needs)
-    (λ c. search needs)
-    (λ c. search needs)
-    returns-4)
+days-in-month-spec = tie.close (tie.spec returns returns-2 (λ c κs. search needs) returns-3 (λ c. search needs) (λ c. search needs) (λ c. search needs) returns-4)

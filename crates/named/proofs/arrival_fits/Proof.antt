@@ -72,16 +72,4 @@ returns-5 c =
     ∙ and-next _ (test-passed (at4 .before .messages-fit .ensures) (at4 .if4 .left)))
 
 pub arrival-fits-spec : {M : Type 1} → statement M
-arrival-fits-spec =
-    tie.close
-    (tie.spec
-    (λ c κs. search needs)
-    (λ c κs. search needs)
-    (λ c κs. search needs)
-    returns
-    returns-2
-    returns-3
-    (λ c κs. search needs)
-    returns-4
-    places-fit-requires
-    returns-5)
+arrival-fits-spec = tie.close (tie.spec (λ c κs. search needs) (λ c κs. search needs) (λ c κs. search needs) returns returns-2 returns-3 (λ c κs. search needs) returns-4 places-fit-requires returns-5)

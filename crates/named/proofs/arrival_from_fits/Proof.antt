@@ -16,11 +16,4 @@ returns-2 c =
     c .arrival-fits .ensures ∙ sym (or-next _ (ne-eqb _ _ (λ e. at1 .if1 .left (at1 .before .before .index .ensures ∙ e ∙ sym (at1 .before .index2 .ensures)))))
 
 pub arrival-from-fits-spec : {M : Type 1} → statement M
-arrival-from-fits-spec =
-    tie.close
-    (tie.spec
-    (λ c κs. search needs)
-    (λ c κs. search needs)
-    returns
-    (λ c κs. search needs)
-    returns-2)
+arrival-from-fits-spec = tie.close (tie.spec (λ c κs. search needs) (λ c κs. search needs) returns (λ c κs. search needs) returns-2)

@@ -21,12 +21,4 @@ returns-2 c =
     ∙ sym (or-next _ (ne-eqb _ _ (λ e. at1 .if1 .left (at1 .before .before .index .ensures ∙ e ∙ sym (at1 .before .index2 .ensures)))))
 
 pub head-out-fits-spec : {M : Type 1} → statement M
-head-out-fits-spec =
-    tie.close
-    (tie.spec
-    (λ c κs. search needs)
-    (λ c κs. search needs)
-    returns
-    (λ c κs. search needs)
-    (λ c κs. search needs)
-    returns-2)
+head-out-fits-spec = tie.close (tie.spec (λ c κs. search needs) (λ c κs. search needs) returns (λ c κs. search needs) (λ c κs. search needs) returns-2)

@@ -30,14 +30,4 @@ returns c =
     c .stored-fits .ensures ∙ ap (storedFit (args .n) (now (args .book)) (args .d .0)) (c .before .nth .ensures ∙ told (c .before .before))
 
 pub place-fits-spec : {M : Type 1} → statement M
-place-fits-spec =
-    tie.close
-    (tie.spec
-    (λ c κs. search needs)
-    (λ c. search needs)
-    (λ c. search needs)
-    (λ c. search needs)
-    (λ c κs. search needs)
-    nth-requires
-    stored-fits-requires
-    returns)
+place-fits-spec = tie.close (tie.spec (λ c κs. search needs) (λ c. search needs) (λ c. search needs) (λ c. search needs) (λ c κs. search needs) nth-requires stored-fits-requires returns)

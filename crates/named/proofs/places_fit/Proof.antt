@@ -38,15 +38,4 @@ returns-2 : tie.Need-returns-2 Inv-loop μ-loop
 returns-2 c = sym (rw (le-antisymm (c .before .loop .inv .0) (c .loop-test .left)) at (c .before .loop .inv .1))
 
 pub places-fit-spec : {M : Type 1} → statement M
-places-fit-spec =
-    tie.close
-    (tie.spec
-    Inv-loop
-    μ-loop
-    loop-holds
-    place-fits-requires
-    returns
-    (λ c. search needs)
-    (λ c. search needs)
-    loop-again
-    returns-2)
+places-fit-spec = tie.close (tie.spec Inv-loop μ-loop loop-holds place-fits-requires returns (λ c. search needs) (λ c. search needs) loop-again returns-2)

@@ -26,12 +26,4 @@ returns-3 c =
     ∙ sym (and-next _ (test-passed (at1 .before .crew-fits .ensures) (at1 .if1 .left)) ∙ and-next _ (test-passed (at2 .before .stored-fits .ensures) (at2 .if2 .left)))
 
 pub read-parts-fit-spec : {M : Type 1} → statement M
-read-parts-fit-spec =
-    tie.close
-    (tie.spec
-    (λ c κs. search needs)
-    returns
-    (λ c κs. search needs)
-    returns-2
-    (λ c κs. search needs)
-    returns-3)
+read-parts-fit-spec = tie.close (tie.spec (λ c κs. search needs) returns (λ c κs. search needs) returns-2 (λ c κs. search needs) returns-3)

@@ -43,15 +43,4 @@ returns-2 c =
     subst₂ (λ (x : Crew) (y : Bearing). Read book (x .0) (y .0) (call .result) (call .last .0)) (sym (good .1)) (sym (good .2)) (call .ensures)
 
 pub read-spec : {M : Type 1} → statement M
-read-spec =
-    tie.close
-    (tie.spec
-    (λ c κs. search needs)
-    (λ c. search needs)
-    (λ c κs. search needs)
-    (λ c. search needs)
-    read-at-requires
-    (λ c. search needs)
-    returns
-    (λ c. search needs)
-    returns-2)
+read-spec = tie.close (tie.spec (λ c κs. search needs) (λ c. search needs) (λ c κs. search needs) (λ c. search needs) read-at-requires (λ c. search needs) returns (λ c. search needs) returns-2)

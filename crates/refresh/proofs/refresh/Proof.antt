@@ -44,14 +44,4 @@ returns-2 c =
     subst₂ (λ (x : Depot) (y : Shelf). Refresh book (x .0) (y .0) (call .result) (call .last .0)) (sym (good .1)) (sym (good .2)) (call .ensures)
 
 pub refresh-spec : {M : Type 1} → statement M
-refresh-spec =
-    tie.close
-    (tie.spec
-    (λ c κs. search needs)
-    (λ c. search needs)
-    (λ c. search needs)
-    refresh-at-requires
-    (λ c. search needs)
-    returns
-    (λ c. search needs)
-    returns-2)
+refresh-spec = tie.close (tie.spec (λ c κs. search needs) (λ c. search needs) (λ c. search needs) refresh-at-requires (λ c. search needs) returns (λ c. search needs) returns-2)

@@ -99,15 +99,4 @@ returns-2 c =
     }
 
 pub refresh-at-spec : {M : Type 1} → statement M
-refresh-at-spec =
-    tie.close
-    (tie.spec
-    counts-of-requires
-    refresh-parts-fit-requires
-    (λ c. search needs)
-    returns
-    lowest-seen-requires
-    (λ c. search needs)
-    settle-requires
-    (λ c. search needs)
-    returns-2)
+refresh-at-spec = tie.close (tie.spec counts-of-requires refresh-parts-fit-requires (λ c. search needs) returns lowest-seen-requires (λ c. search needs) settle-requires (λ c. search needs) returns-2)

@@ -86,16 +86,4 @@ returns-5 c =
     setup-done _ _ _ (setup-good _ _ _ full (counts-good tested) (homes-counted tested) (test-passed (homes-said (all .before)) (all .if4 .left))) (c .before .before .write-fresh .ensures)
 
 pub setup-spec : {M : Type 1} → statement M
-setup-spec =
-    tie.close
-    (tie.spec
-    returns
-    (λ c κs. search needs)
-    (λ c κs. search needs)
-    returns-2
-    returns-3
-    (λ c κs. search needs)
-    returns-4
-    write-fresh-requires
-    (λ c. search needs)
-    returns-5)
+setup-spec = tie.close (tie.spec returns (λ c κs. search needs) (λ c κs. search needs) returns-2 returns-3 (λ c κs. search needs) returns-4 write-fresh-requires (λ c. search needs) returns-5)

@@ -17,12 +17,4 @@ returns c =
     (c .before .before .write-words2 .ensures)
 
 pub write-fresh-spec : {M : Type 1} → statement M
-write-fresh-spec =
-    tie.close
-    (tie.spec
-    (λ c κs. search needs)
-    (λ c. search needs)
-    (λ c κs. search needs)
-    (λ c κs. search needs)
-    (λ c. search needs)
-    returns)
+write-fresh-spec = tie.close (tie.spec (λ c κs. search needs) (λ c. search needs) (λ c κs. search needs) (λ c κs. search needs) (λ c. search needs) returns)

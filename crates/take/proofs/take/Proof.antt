@@ -45,14 +45,4 @@ returns-2 c =
     subst₃ (λ (x : Depot) (y : Shelf) (z : Depot). Take book (x .0) (y .0) (z .0) (call .result) (call .last .0)) (sym (good .1)) (sym (good .2)) (sym (good .3)) (call .ensures)
 
 pub take-spec : {M : Type 1} → statement M
-take-spec =
-    tie.close
-    (tie.spec
-    (λ c κs. search needs)
-    (λ c. search needs)
-    (λ c. search needs)
-    take-at-requires
-    (λ c. search needs)
-    returns
-    (λ c. search needs)
-    returns-2)
+take-spec = tie.close (tie.spec (λ c κs. search needs) (λ c. search needs) (λ c. search needs) take-at-requires (λ c. search needs) returns (λ c. search needs) returns-2)

@@ -52,16 +52,4 @@ returns-5 c =
     ∙ and-next _ (test-passed (at4 .before .links-fit .ensures) (at4 .if4 .left)))
 
 pub parts-fit-spec : {M : Type 1} → statement M
-parts-fit-spec =
-    tie.close
-    (tie.spec
-    (λ c κs. search needs)
-    returns
-    (λ c κs. search needs)
-    returns-2
-    (λ c κs. search needs)
-    returns-3
-    (λ c κs. search needs)
-    returns-4
-    (λ c κs. search needs)
-    returns-5)
+parts-fit-spec = tie.close (tie.spec (λ c κs. search needs) returns (λ c κs. search needs) returns-2 (λ c κs. search needs) returns-3 (λ c κs. search needs) returns-4 (λ c κs. search needs) returns-5)

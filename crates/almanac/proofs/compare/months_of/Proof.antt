@@ -12,14 +12,4 @@ abbrev μ-loop : tie.MeasureT-loop
 μ-loop step n far₀ i₀ far i = n - i
 
 pub months-of-spec : {M : Type 1} → statement M
-months-of-spec =
-    tie.close
-    (tie.spec
-    Inv-loop
-    μ-loop
-    (λ c. search needs)
-    (λ c κs. search needs)
-    (λ c. search needs)
-    (λ c. search needs)
-    (λ c. search needs)
-    (λ c. search needs))
+months-of-spec = tie.close (tie.spec Inv-loop μ-loop (λ c. search needs) (λ c κs. search needs) (λ c. search needs) (λ c. search needs) (λ c. search needs) (λ c. search needs))

@@ -8,13 +8,4 @@ returns : tie.Need-returns
 returns c = rw (c .index .ensures, c .before .seen-at .ensures)
 
 pub set-seen-spec : {M : Type 1} → statement M
-set-seen-spec =
-    tie.close
-    (tie.spec
-    (λ c κs. search needs)
-    (λ c κs. search needs)
-    (λ c. search needs)
-    (λ c. search needs)
-    (λ c. search needs)
-    (λ c. search needs)
-    returns)
+set-seen-spec = tie.close (tie.spec (λ c κs. search needs) (λ c κs. search needs) (λ c. search needs) (λ c. search needs) (λ c. search needs) (λ c. search needs) returns)

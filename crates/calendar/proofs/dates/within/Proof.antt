@@ -55,15 +55,4 @@ returns c =
     (ap₂ (λ (s t : ℕ). s + (t - 1)) (w .begun) (w .there) ∙ sym (number-in m _))
 
 pub within-spec : {M : Type 1} → statement M
-within-spec =
-    tie.close
-    (tie.spec
-    (λ c. search needs)
-    (λ c. search needs)
-    (λ c κs. search needs)
-    (λ c κs. search needs)
-    (λ c κs. search needs)
-    (λ c κs. search needs)
-    sub-t8
-    add-t7
-    returns)
+within-spec = tie.close (tie.spec (λ c. search needs) (λ c. search needs) (λ c κs. search needs) (λ c κs. search needs) (λ c κs. search needs) (λ c κs. search needs) sub-t8 add-t7 returns)

@@ -40,14 +40,4 @@ returns-4 c =
     ∙ and-next _ (test-passed (at3 .before .is-between3 .ensures) (at3 .if3 .left)))
 
 pub counts-fit-spec : {M : Type 1} → statement M
-counts-fit-spec =
-    tie.close
-    (tie.spec
-    (λ c κs. search needs)
-    returns
-    (λ c κs. search needs)
-    returns-2
-    (λ c κs. search needs)
-    returns-3
-    (λ c κs. search needs)
-    returns-4)
+counts-fit-spec = tie.close (tie.spec (λ c κs. search needs) returns (λ c κs. search needs) returns-2 (λ c κs. search needs) returns-3 (λ c κs. search needs) returns-4)

@@ -16,14 +16,4 @@ returns c =
     c .others-in-range .ensures ∙ range-lent _ (now (start .args .book)) (start .pre .1) refl (at .ensures) ∙ range-all _ _
 
 pub crew-fits-spec : {M : Type 1} → statement M
-crew-fits-spec =
-    tie.close
-    (tie.spec
-    (λ c κs. search needs)
-    (λ c. search needs)
-    (λ c. search needs)
-    (λ c. search needs)
-    (λ c. search needs)
-    (λ c. search needs)
-    (λ c κs. search needs)
-    returns)
+crew-fits-spec = tie.close (tie.spec (λ c κs. search needs) (λ c. search needs) (λ c. search needs) (λ c. search needs) (λ c. search needs) (λ c. search needs) (λ c κs. search needs) returns)

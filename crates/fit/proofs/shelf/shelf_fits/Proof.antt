@@ -26,12 +26,4 @@ returns-3 c =
     ∙ sym (and-next _ (test-passed (at1 .before .clock-fits .ensures) (at1 .if1 .left)) ∙ and-next _ (test-passed (at2 .before .stable-fits .ensures) (at2 .if2 .left)))
 
 pub shelf-fits-spec : {M : Type 1} → statement M
-shelf-fits-spec =
-    tie.close
-    (tie.spec
-    (λ c κs. search needs)
-    returns
-    (λ c κs. search needs)
-    returns-2
-    (λ c κs. search needs)
-    returns-3)
+shelf-fits-spec = tie.close (tie.spec (λ c κs. search needs) returns (λ c κs. search needs) returns-2 (λ c κs. search needs) returns-3)

@@ -73,17 +73,4 @@ returns c =
     ∙ ap (times (args .n) (sentTo (args .d .0) (args .s .0) (now (args .message)))) (clock .set-clock .ensures)
 
 pub send-spec : {M : Type 1} → statement M
-send-spec =
-    tie.close
-    (tie.spec
-    Inv-loop
-    μ-loop
-    set-clock-requires
-    loop-holds
-    (λ c κs. search needs)
-    send-to-requires
-    (λ c. search needs)
-    (λ c. search needs)
-    loop-again
-    same-length
-    returns)
+send-spec = tie.close (tie.spec Inv-loop μ-loop set-clock-requires loop-holds (λ c κs. search needs) send-to-requires (λ c. search needs) (λ c. search needs) loop-again same-length returns)

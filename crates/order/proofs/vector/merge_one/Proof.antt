@@ -15,15 +15,4 @@ returns-3 : tie.Need-returns-3
 returns-3 c = merge-one-stays _ _ _ _ _ (c .before .before .if1 .left) (c .if2 .left)
 
 pub merge-one-spec : {M : Type 1} → statement M
-merge-one-spec =
-    tie.close
-    (tie.spec
-    returns
-    (λ c. search needs)
-    (λ c. search needs)
-    (λ c. search needs)
-    (λ c. search needs)
-    (λ c. search needs)
-    (λ c. search needs)
-    returns-2
-    returns-3)
+merge-one-spec = tie.close (tie.spec returns (λ c. search needs) (λ c. search needs) (λ c. search needs) (λ c. search needs) (λ c. search needs) (λ c. search needs) returns-2 returns-3)

@@ -40,15 +40,4 @@ returns c =
     c .before .before .keep .ensures ∙ ap (λ (r : List ℕ). keptIn (args .n) (args .d .0) r (now (args .book))) (record-place _ _ _ (at .ensures))
 
 pub keep-slot-spec : {M : Type 1} → statement M
-keep-slot-spec =
-    tie.close
-    (tie.spec
-    (λ c κs. search needs)
-    (λ c. search needs)
-    (λ c. search needs)
-    (λ c. search needs)
-    (λ c κs. search needs)
-    nth-requires
-    keep-requires
-    (λ c. search needs)
-    returns)
+keep-slot-spec = tie.close (tie.spec (λ c κs. search needs) (λ c. search needs) (λ c. search needs) (λ c. search needs) (λ c κs. search needs) nth-requires keep-requires (λ c. search needs) returns)

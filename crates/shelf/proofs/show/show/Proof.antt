@@ -54,16 +54,4 @@ unfolding shown
 returns c = rw (le-antisymm (c .before .loop .inv .0) (c .loop-test .left)) at (c .before .loop .inv .2)
 
 pub show-spec : {M : Type 1} → statement M
-show-spec =
-    tie.close
-    (tie.spec
-    Inv-loop
-    μ-loop
-    loop-holds
-    (λ c κs. search needs)
-    show-from-requires
-    (λ c. search needs)
-    (λ c. search needs)
-    loop-again
-    (λ c. search needs)
-    returns)
+show-spec = tie.close (tie.spec Inv-loop μ-loop loop-holds (λ c κs. search needs) show-from-requires (λ c. search needs) (λ c. search needs) loop-again (λ c. search needs) returns)

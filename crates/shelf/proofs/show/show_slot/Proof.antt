@@ -12,14 +12,4 @@ returns-2 : tie.Need-returns-2
 returns-2 c = sweep-moved _ _ _ _ _ _ _ (c .before .before .before .before .before .is-slot-covered .ensures) (c .before .before .before .before .if1 .left) (c .before .before .move-slot .ensures)
 
 pub show-slot-spec : {M : Type 1} → statement M
-show-slot-spec =
-    tie.close
-    (tie.spec
-    (λ c κs. search needs)
-    (λ c κs. search needs)
-    (λ c. search needs)
-    returns
-    (λ c κs. search needs)
-    (λ c. search needs)
-    (λ c. search needs)
-    returns-2)
+show-slot-spec = tie.close (tie.spec (λ c κs. search needs) (λ c κs. search needs) (λ c. search needs) returns (λ c κs. search needs) (λ c. search needs) (λ c. search needs) returns-2)

@@ -39,15 +39,4 @@ returns : tie.Need-returns Inv-loop μ-loop
 returns c = rw (le-antisymm (c .before .loop .inv .0) (c .loop-test .left)) at (c .before .loop .inv .2)
 
 pub sweep-spec : {M : Type 1} → statement M
-sweep-spec =
-    tie.close
-    (tie.spec
-    Inv-loop
-    μ-loop
-    loop-holds
-    show-slot-requires
-    (λ c. search needs)
-    (λ c. search needs)
-    loop-again
-    (λ c. search needs)
-    returns)
+sweep-spec = tie.close (tie.spec Inv-loop μ-loop loop-holds show-slot-requires (λ c. search needs) (λ c. search needs) loop-again (λ c. search needs) returns)

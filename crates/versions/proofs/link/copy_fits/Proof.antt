@@ -23,13 +23,4 @@ returns-2 c =
     ∙ sym (and-next _ (eq-eqb _ _ (c .before .before .if1 .left)))
 
 pub copy-fits-spec : {M : Type 1} → statement M
-copy-fits-spec =
-    tie.close
-    (tie.spec
-    (λ c. search needs)
-    returns
-    (λ c. search needs)
-    (λ c. search needs)
-    (λ c. search needs)
-    (λ c κs. search needs)
-    returns-2)
+copy-fits-spec = tie.close (tie.spec (λ c. search needs) returns (λ c. search needs) (λ c. search needs) (λ c. search needs) (λ c κs. search needs) returns-2)

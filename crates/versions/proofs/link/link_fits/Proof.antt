@@ -39,13 +39,4 @@ returns-4 c =
     ∙ and-next _ (le-leb _ _ (at2 .if2 .left)))
 
 pub link-fits-spec : {M : Type 1} → statement M
-link-fits-spec =
-    tie.close
-    (tie.spec
-    (λ c κs. search needs)
-    (λ c κs. search needs)
-    returns
-    returns-2
-    returns-3
-    (λ c κs. search needs)
-    returns-4)
+link-fits-spec = tie.close (tie.spec (λ c κs. search needs) (λ c κs. search needs) returns returns-2 returns-3 (λ c κs. search needs) returns-4)

@@ -23,15 +23,4 @@ returns-3 c =
     ∙ message-copy (args .n) (args .s .0) (args .from .0) (now (args .message)) (c .before .before .if2 .left)
 
 pub message-fits-spec : {M : Type 1} → statement M
-message-fits-spec =
-    tie.close
-    (tie.spec
-    (λ c. search needs)
-    (λ c. search needs)
-    returns
-    returns-2
-    (λ c. search needs)
-    (λ c. search needs)
-    (λ c. search needs)
-    (λ c κs. search needs)
-    returns-3)
+message-fits-spec = tie.close (tie.spec (λ c. search needs) (λ c. search needs) returns returns-2 (λ c. search needs) (λ c. search needs) (λ c. search needs) (λ c κs. search needs) returns-3)

@@ -15,14 +15,4 @@ returns c =
     c .kept-fits .ensures ∙ ap (keptFit (args .n) (args .k .0)) (part-from (now (args .book)) 9 (c .before .before .stored-at .ensures))
 
 pub stored-fits-spec : {M : Type 1} → statement M
-stored-fits-spec =
-    tie.close
-    (tie.spec
-    (λ c κs. search needs)
-    (λ c. search needs)
-    (λ c. search needs)
-    (λ c. search needs)
-    (λ c. search needs)
-    (λ c. search needs)
-    (λ c κs. search needs)
-    returns)
+stored-fits-spec = tie.close (tie.spec (λ c κs. search needs) (λ c. search needs) (λ c. search needs) (λ c. search needs) (λ c. search needs) (λ c. search needs) (λ c κs. search needs) returns)
