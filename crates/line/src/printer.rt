@@ -1,11 +1,9 @@
 // The printer: numbers and runs of numbers, into an output that is lent. Each function says the place after what it wrote.
-use paper::request::Event;
-ghost use mathlib.Core.Path.{_≡_};
 ghost use mathlib.Core.List.{_∷_};
 ghost use lib.ListN.{take, length};
 ghost use Prim.Native.Nat.{_≤_};
 ghost use Rattle.line.specs.Number.{decimal};
-ghost use Rattle.line.specs.Grammar.{letter, spaceByte, spaced, printed};
+ghost use Rattle.line.specs.Grammar.{spaceByte, spaced};
 ghost use Rattle.line.specs.Printing.{Room, Wrote};
 
 // n in decimal, from the place `at` on.
@@ -43,27 +41,4 @@ pub fn print_numbers(out: &mut [u8], at: usize, numbers: &[u32], count: usize) -
         i += 1;
     }
     next
-}
-
-// The byte that names an event.
-fn letter_of(event: Event) -> u8
-    ensures { λ r. ⌜ r ≡ letter event ⌝ }
-{
-    match event {
-        Event::Setup => b'S',
-        Event::Read => b'R',
-        Event::Write => b'W',
-        Event::Tick => b'K',
-        Event::Take => b'T',
-        Event::Refresh => b'F',
-    }
-}
-
-// The line of an event and the first `count` of the numbers.
-pub fn print_line(out: &mut [u8], at: usize, event: Event, numbers: &[u32], count: usize) -> usize
-    requires { ⌜ (count ≤ length (now numbers)) × Room (now out) at (printed event (take count (now numbers))) ⌝ }
-    ensures { λ r. ⌜ Wrote (now (out .entry)) at (printed event (take count (now (numbers .entry)))) (now (out .exit)) r ⌝ }
-{
-    out[at] = letter_of(event);
-    print_numbers(out, at + 1, numbers, count)
 }
