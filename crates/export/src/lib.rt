@@ -81,10 +81,10 @@ pub extern "C" fn depot_setup(
     ensures { λ r. ⌜ now (book .exit) ≡ bookAfter (now (book .entry)) (setup (record { depots = depots; shelves = shelves; bearings = bearings; crews = crews }) (now (homes .entry))) ⌝ }
 {
     let request = Request::Setup {
-        depots: depots,
-        shelves: shelves,
-        bearings: bearings,
-        crews: crews,
+        depots,
+        shelves,
+        bearings,
+        crews,
     };
     ask(book, request, homes)
 }
@@ -94,10 +94,7 @@ pub extern "C" fn depot_tick(book: &mut [u32], depot: u32, shelf: u32) -> u32
     ensures { λ r. ⌜ r ≡ numberAt (now (book .entry)) (call (tick depot shelf)) ⌝ }
     ensures { λ r. ⌜ now (book .exit) ≡ bookAfter (now (book .entry)) (call (tick depot shelf)) ⌝ }
 {
-    let request = Request::Tick {
-        depot: depot,
-        shelf: shelf,
-    };
+    let request = Request::Tick { depot, shelf };
     ask(book, request, &[0u32; 0])
 }
 
@@ -106,11 +103,7 @@ pub extern "C" fn depot_take(book: &mut [u32], depot: u32, shelf: u32, from: u32
     ensures { λ r. ⌜ r ≡ numberAt (now (book .entry)) (call (take depot shelf from)) ⌝ }
     ensures { λ r. ⌜ now (book .exit) ≡ bookAfter (now (book .entry)) (call (take depot shelf from)) ⌝ }
 {
-    let request = Request::Take {
-        depot: depot,
-        shelf: shelf,
-        from: from,
-    };
+    let request = Request::Take { depot, shelf, from };
     ask(book, request, &[0u32; 0])
 }
 
@@ -119,10 +112,7 @@ pub extern "C" fn depot_refresh(book: &mut [u32], depot: u32, shelf: u32) -> u32
     ensures { λ r. ⌜ r ≡ numberAt (now (book .entry)) (call (refresh depot shelf)) ⌝ }
     ensures { λ r. ⌜ now (book .exit) ≡ bookAfter (now (book .entry)) (call (refresh depot shelf)) ⌝ }
 {
-    let request = Request::Refresh {
-        depot: depot,
-        shelf: shelf,
-    };
+    let request = Request::Refresh { depot, shelf };
     ask(book, request, &[0u32; 0])
 }
 
@@ -132,10 +122,7 @@ pub extern "C" fn depot_read(book: &mut [u32], crew: u32, bearing: u32, out: &mu
     ensures { λ r. ⌜ now (book .exit) ≡ bookAfter (now (book .entry)) (call (read crew bearing)) ⌝ }
     ensures { λ r. ⌜ now (out .exit) ≡ filled (wordsOf (replyTo (now (book .entry)) (call (read crew bearing)))) (now (out .entry)) ⌝ }
 {
-    let request = Request::Read {
-        crew: crew,
-        bearing: bearing,
-    };
+    let request = Request::Read { crew, bearing };
     ask_telling(book, request, out)
 }
 
@@ -152,9 +139,9 @@ pub extern "C" fn depot_write(
     ensures { λ r. ⌜ now (out .exit) ≡ filled (wordsOf (replyTo (now (book .entry)) (call (write crew bearing value)))) (now (out .entry)) ⌝ }
 {
     let request = Request::Write {
-        crew: crew,
-        bearing: bearing,
-        value: value,
+        crew,
+        bearing,
+        value,
     };
     ask_telling(book, request, out)
 }
