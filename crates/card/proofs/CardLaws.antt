@@ -1,21 +1,19 @@
 -- A length is a number, and words and cards are one to one. The grams of a card lie between those of the least and of the largest, so they are a number too.
 -- Assumes nothing.
-use Prim.Native.Nat.{ℕ, _*_, _^_, _≤_, _<_}
+use Prim.Native.Nat.{ℕ, _^_, _<_}
 use native.Mathlib.Nat.{lt-of-le-of-lt, lt-of-lt-of-le, mul-le-mul-right}
-use native.Mathlib.Omega.{arith}
 use mathlib.Core.Path.{_≡_, refl, sym, ap, _∙_}
 use mathlib.Core.Bool.{Bool, true, false, not, _&&_, false≢true}
 use borrow.Author.Tests.{ltb-true, leb-true}
 use lib.Dec.{T, leb, ltb, lit<, lit≤}
 use lib.IntN.{negsuc}
 use lib.Pow.{pow-pos}
-use lib.Ieee.{Float, nan, inf, fin, binary32, binary64, isNan, nanBits, fits, ofBits, toBits, mul, round, le, ne}
-use lib.Ieee.Bits.{is-true, nanBits-is, ofBits-fits, ofBits-toBits, toBits-ofBits}
+use lib.Ieee.{Float, nan, inf, fin, binary32, binary64, isNan, nanBits, fits, ofBits, mul, round, le, ne}
+use lib.Ieee.Bits.{nanBits-is, ofBits-fits, toBits-ofBits}
 use lib.Ieee.Compare.{differs-from-itself, nan-differs}
 use lib.Ieee.Fits.{and-i, fits-widens}
 use lib.Ieee.Order.{le-of-values}
 use lib.Ieee.Positive.{positive, positive-of-value, between, mul-mono, le-trans-positive}
-use Rattle.loops.specs.Loops.{pick}
 use Rattle.loops.proofs.BoolLaws.{and-left, and-right, pick-false, failed}
 use Rattle.card.specs.Card.{floatOf, whole, lengthFit, cardFit, wordOf, density, weight}
 use Rattle.card.proofs.LengthLaws.{units, units-value, units-pos, positive-fit, length-is}

@@ -1,10 +1,11 @@
 -- Of floats that are not negative the greater one has the greater bits, so a length is told by its word: it is one from 1 to the word of 2,000.
 -- Assumes nothing.
 use Prim.Native.Nat.{ℕ, zero, suc, _+_, _*_, _/_, _%_, _^_, _≤_, _<_}
-use native.Mathlib.Nat.{le-trans, le-of-eq, lt-of-lt-of-le, not-le-of-lt, mod-eq-of-lt, zero-mul, mul-one, mul-assoc, mul-pos, mul-le-mul-right, mul-le-mul-left, pow-succ'}
+use native.Mathlib.Nat.{le-trans, le-of-eq, lt-of-lt-of-le, mod-eq-of-lt, zero-mul, mul-one, mul-assoc, mul-pos}
+use native.Mathlib.Nat.{mul-le-mul-right, mul-le-mul-left, pow-succ'}
 use native.Mathlib.Omega.{arith}
 use mathlib.Core.Path.{_≡_, refl, sym, ap, _∙_, subst}
-use mathlib.Core.Logic.{_⊎_, inl, inr, ⊎-elim}
+use mathlib.Core.Logic.{⊎-elim}
 use mathlib.Core.Bool.{Bool, true, false, _&&_, cond}
 use borrow.Author.Tests.{leb-true, le-leb, lt-leb, lt-ltb, ne-eqb}
 use lib.Dec.{T, leb, ltb, eqb, ltb→lt, lit≤, lit<}
@@ -48,10 +49,13 @@ counted-field x (suc y) t u l h =
 
 -- a greater word counts more
 units-mono : (b c : ℕ) → b ≤ c → units b ≤ units c
-units-mono b c h = ⊎-elim (same (b / 0x80_0000) (c / 0x80_0000) (omega arith)) (λ l. counted-field _ (c / 0x80_0000) _ _ l (omega arith)) (le-or-lt (c / 0x80_0000) (b / 0x80_0000))
+units-mono b c h = ⊎-elim same (λ l. counted-field _ (c / 0x80_0000) _ _ l (omega arith)) (le-or-lt (c / 0x80_0000) (b / 0x80_0000))
   where
-    same : (x y : ℕ) → (y ≤ x → (x ≡ y) × (b % 0x80_0000 ≤ c % 0x80_0000)) → y ≤ x → counted x (b % 0x80_0000) ≤ counted y (c % 0x80_0000)
-    same x y f l = subst (λ (z : ℕ). counted x (b % 0x80_0000) ≤ counted z (c % 0x80_0000)) (f l .0) (counted-digits x _ _ (f l .1))
+    same : c / 0x80_0000 ≤ b / 0x80_0000 → units b ≤ units c
+    same l =
+        let fields : b / 0x80_0000 ≡ c / 0x80_0000 = omega arith in
+        let digits : b % 0x80_0000 ≤ c % 0x80_0000 = omega arith in
+        subst (λ (x : ℕ). units b ≤ counted x (c % 0x80_0000)) fields (counted-digits (b / 0x80_0000) _ _ digits)
 
 -- ---- the float of a word
 
@@ -112,12 +116,16 @@ positive-fit (fin true m e) p = absurd p
 positive-fit (fin false m e) p = simp (zero-mul, mul-one, lt-ltb 0 (m * up e) (mul-pos (ltb→lt 0 m p) (up-pos e)))
 
 counts-fit : (x : Float) (v : ℕ) → HasValue x false v (2 ^ 149) → 0 < v → lengthFit x ≡ leb v (2000 * 2 ^ 149)
-counts-fit x v h k =
-    let p = positive-of-value x v (2 ^ 149) h k in
-    positive-fit x p
-    ∙ together (le x (whole 2000)) (leb v (2000 * 2 ^ 149))
-    (λ e. le-leb _ _ (subst (λ (n : ℕ). n ≤ 2000 * 2 ^ 149) (mul-one v) (values-of-le x (whole 2000) v (2 ^ 149) 2000 1 p tt h (refl, refl) (subst T (sym e) tt))))
-    (λ e. is-true _ (le-of-values x (whole 2000) v (2 ^ 149) 2000 1 (pow-pos 149) (pow-pos 0) h (refl, refl) (le-trans (le-of-eq (mul-one v)) (leb-true _ _ e))))
+counts-fit x v h k = positive-fit x p ∙ together (le x (whole 2000)) (leb v (2000 * 2 ^ 149)) at-most fits
+  where
+    p : T (positive x)
+    p = positive-of-value x v (2 ^ 149) h k
+
+    at-most : le x (whole 2000) ≡ true → leb v (2000 * 2 ^ 149) ≡ true
+    at-most e = le-leb _ _ (rw mul-one at (values-of-le x (whole 2000) v (2 ^ 149) 2000 1 p tt h (refl, refl) (subst T (sym e) tt)))
+
+    fits : leb v (2000 * 2 ^ 149) ≡ true → le x (whole 2000) ≡ true
+    fits e = is-true _ (le-of-values x (whole 2000) v (2 ^ 149) 2000 1 (pow-pos 149) (pow-pos 0) h (refl, refl) (rw mul-one (leb-true _ _ e)))
 
 limit-is : (b : ℕ) → leb (units b) (2000 * 2 ^ 149) ≡ leb b 0x44FA_0000
 limit-is b =
@@ -134,11 +142,11 @@ pub length-zero : lengthFit (floatOf 0) ≡ false
 unfolding lengthFit lt ofBits
 length-zero = refl
 
-pub length-above : (b : ℕ) → (b ≡ 0 → ⊥) → lengthFit (floatOf b) ≡ leb b 0x44FA_0000
+pub length-above : (b : ℕ) → 0 < b → lengthFit (floatOf b) ≡ leb b 0x44FA_0000
 length-above b p =
     ⊎-elim
     (λ (h : 0x7F80_0000 ≤ b). unfit-high b h ∙ sym (lt-leb b 0x44FA_0000 (omega arith)))
-    (λ h. counts-fit (floatOf b) (units b) (units-value b h) (units-pos b (omega arith)) ∙ limit-is b)
+    (λ h. counts-fit (floatOf b) (units b) (units-value b h) (units-pos b p) ∙ limit-is b)
     (le-or-lt 0x7F80_0000 b)
 
 pub length-is : (b : ℕ) → lengthFit (floatOf b) ≡ (ltb 0 b && leb b 0x44FA_0000)

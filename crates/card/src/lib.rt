@@ -20,8 +20,10 @@ pub enum GramsAnswer {
     BadCard,
 }
 
-// The bits of 2,000. Of two floats that are not negative the greater one has the greater bits.
-const LONGEST: u32 = 0x44FA_0000;
+// The bits of the least float above 0, and of 2,000. Of floats that are not negative the greater one has the greater bits.
+const LEAST: u32 = 1;
+
+const MOST: u32 = 0x44FA_0000;
 
 const DENSITY: f64 = 0.005;
 
@@ -29,10 +31,10 @@ const DENSITY: f64 = 0.005;
 fn length_fits(bits: u32) -> bool
     ensures { λ r. ⌜ r ≡ lengthFit (floatOf bits) ⌝ }
 {
-    if bits == 0 {
+    if bits < LEAST {
         return false;
     }
-    bits <= LONGEST
+    bits <= MOST
 }
 
 // Whether two words are a card.

@@ -1,12 +1,9 @@
 -- `card::grams` meets its contract: the words of a card are no NaN's, its lengths are 64-bit floats too, and their grams are a number.
 -- Assumes nothing.
 use borrow.Author.Needs.{needs}
-use mathlib.Core.Path.{_≡_, sym, ap, _∙_}
-use mathlib.Core.Bool.{true, not}
-use lib.Dec.{T}
-use lib.Ieee.{binary64, isNan, toBits}
+use mathlib.Core.Path.{_≡_, sym}
+use mathlib.Core.Bool.{true}
 use Rattle.loops.proofs.BoolLaws.{pick-true, pick-false, test-passed, test-failed}
-use Rattle.card.specs.declared.GramsAnswer.the-variants.{Of}
 use Rattle.card.specs.Card.{cardFit, gramsOf, gramsAnswer}
 use Rattle.card.proofs.CardLaws.{fit-diameter, fit-width, word-number, length-widens, weight-is, weight-number}
 use Rattle.card.proofs.grams.Statement.{statement}
@@ -39,4 +36,6 @@ unfolding gramsAnswer gramsOf
 returns-2 c = rw (weight-is _ _) (sym (pick-true _ _ (fit (c .before .before))))
 
 pub grams-spec : {M : Type 1} → statement M
-grams-spec = tie.close (tie.spec (λ c κs. search needs) returns float-from-bits-d float-to-float-d float-from-bits-w float-to-float-w float-to-bits-t10 returns-2)
+grams-spec =
+    tie.close
+    (tie.spec (λ c κs. search needs) returns float-from-bits-d float-to-float-d float-from-bits-w float-to-float-w float-to-bits-t10 returns-2)

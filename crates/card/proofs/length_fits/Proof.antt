@@ -1,13 +1,13 @@
 -- `card::length_fits` meets its contract: the words of lengths are those from 1 to that of 2,000.
 -- Assumes nothing.
-use mathlib.Core.Path.{sym, ap, _∙_}
-use Rattle.card.specs.Card.{floatOf, lengthFit}
+use native.Mathlib.Omega.{arith}
+use mathlib.Core.Path.{_≡_, sym}
 use Rattle.card.proofs.LengthLaws.{length-zero, length-above}
 use Rattle.card.proofs.length_fits.Statement.{statement}
 use Rattle.card.proofs.length_fits.Tie as tie
 
 returns : tie.Need-returns
-returns c = rw (c .if1 .taken, length-zero)
+returns c = let none : c .before .args .bits ≡ 0 = omega arith in rw (none, length-zero)
 
 returns-2 : tie.Need-returns-2
 returns-2 c = sym (length-above _ (c .if1 .left))
