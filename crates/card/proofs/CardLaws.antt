@@ -1,4 +1,5 @@
--- A length is a number, and words and cards are one to one. The grams of a card lie between those of the least and of the largest, so they are a number too.
+-- A length is a number, and so are the grams of a card: they lie between those of the least lengths and those of the longest, for a product grows with
+-- each factor.
 -- Assumes nothing.
 use Prim.Native.Nat.{ℕ, _^_, _<_}
 use native.Mathlib.Nat.{lt-of-le-of-lt, lt-of-lt-of-le, mul-le-mul-right}
@@ -24,11 +25,17 @@ holds : {b : Bool} → b ≡ true → T b
 holds {b = true} h = tt
 holds {b = false} h = absurd (false≢true h)
 
-number : (x : Float) → T (positive x) → isNan x ≡ false
+pub length-number : (x : Float) → lengthFit x ≡ true → isNan x ≡ false
+unfolding lengthFit isNan
+length-number nan h = absurd (false≢true h)
+length-number (inf s) h = refl
+length-number (fin s m e) h = refl
+
+positive-number : (x : Float) → T (positive x) → isNan x ≡ false
 unfolding isNan
-number nan p = absurd p
-number (inf s) p = absurd p
-number (fin s m e) p = refl
+positive-number nan p = absurd p
+positive-number (inf s) p = refl
+positive-number (fin s m e) p = refl
 
 -- a NaN, and nothing else, differs from itself
 pub differs-is : (x : Float) → ne x x ≡ isNan x
@@ -69,20 +76,20 @@ module _ (b : ℕ) (h : lengthFit (floatOf b) ≡ true) where
         high = holds (sym (positive-fit (floatOf b) above) ∙ h);
       }
 
-  length-number : isNan (floatOf b) ≡ false
-  length-number = number (floatOf b) (length .above)
+  no-nan : isNan (floatOf b) ≡ false
+  no-nan = length-number (floatOf b) h
 
   -- what the code's steps ask: the word is no NaN's, and its float is a 64-bit one too
   pub word-number : T (not (nanBits binary32 b))
-  word-number = rw (nanBits-is binary32 b, length-number) tt
+  word-number = rw (nanBits-is binary32 b, no-nan) tt
 
   pub length-widens : T (fits binary64 (floatOf b) && not (isNan (floatOf b)))
-  length-widens = and-i (fits binary64 (floatOf b)) (not (isNan (floatOf b))) (fits-widens (floatOf b) (ofBits-fits binary32 b)) (rw length-number tt)
+  length-widens = and-i (fits binary64 (floatOf b)) (not (isNan (floatOf b))) (fits-widens (floatOf b) (ofBits-fits binary32 b)) (rw no-nan tt)
 
   -- the word of a length's float is the word
   pub word-back : wordOf (floatOf b) ≡ b
   unfolding wordOf
-  word-back = pick-false _ _ length-number ∙ toBits-ofBits binary32 b (lt-of-lt-of-le word-high (lit≤ tt)) (rw length-number tt)
+  word-back = pick-false _ _ no-nan ∙ toBits-ofBits binary32 b (lt-of-lt-of-le word-high (lit≤ tt)) (rw no-nan tt)
 
 pub fit-diameter : (d w : ℕ) → cardFit d w ≡ true → lengthFit (floatOf d) ≡ true
 unfolding cardFit
@@ -113,7 +120,7 @@ weight-between d w h =
     product _ _ _ density density density lengths (record { from = tt; to = tt; above = tt; low = tt; high = tt }) tt tt
 
 pub weight-number : (d w : ℕ) → cardFit d w ≡ true → T (not (isNan (weight (floatOf d) (floatOf w))))
-weight-number d w h = rw (number _ (weight-between d w h .above)) tt
+weight-number d w h = rw (positive-number _ (weight-between d w h .above)) tt
 
 -- the grams of a card are finite, above 0 and at most 20,000
 pub weight-within : (d w : ℕ) → cardFit d w ≡ true → T (positive (weight (floatOf d) (floatOf w))) × T (le (weight (floatOf d) (floatOf w)) (whole 20000))

@@ -11,12 +11,15 @@ pub lengths : map (λ b. lengthFit (floatOf b)) (1 ∷ 0x80_0000 ∷ 0x3DCC_CCCD
 unfolding lengthFit lt le ofBits
 lengths = refl
 
--- 0 and the one after 2,000; the largest, infinity and two NaNs; the same with a sign
-pub no-lengths : map (λ b. lengthFit (floatOf b)) (0 ∷ 0x44FA_0001 ∷ 0x7F7F_FFFF ∷ 0x7F80_0000 ∷ 0x7F80_0001 ∷ 0x7FC0_0000 ∷ []) ≡ false ∷ false ∷ false ∷ false ∷ false ∷ false ∷ []
+-- 0, the one after 2,000, the largest, infinity, two NaNs
+pub no-lengths : map (λ b. lengthFit (floatOf b)) (0 ∷ 0x44FA_0001 ∷ 0x7F7F_FFFF ∷ 0x7F80_0000 ∷ 0x7F80_0001 ∷ 0x7FC0_0000 ∷ [])
+    ≡ false ∷ false ∷ false ∷ false ∷ false ∷ false ∷ []
 unfolding lengthFit lt le ofBits
 no-lengths = refl
 
-pub no-lengths-signed : map (λ b. lengthFit (floatOf b)) (0x8000_0000 ∷ 0xBF80_0000 ∷ 0xFF80_0000 ∷ 0xFFC0_0000 ∷ []) ≡ false ∷ false ∷ false ∷ false ∷ []
+-- with a sign: 0, the least, 1, infinity, a NaN
+pub no-lengths-signed : map (λ b. lengthFit (floatOf b)) (0x8000_0000 ∷ 0x8000_0001 ∷ 0xBF80_0000 ∷ 0xFF80_0000 ∷ 0xFFFF_FFFF ∷ [])
+    ≡ false ∷ false ∷ false ∷ false ∷ false ∷ []
 unfolding lengthFit lt le ofBits
 no-lengths-signed = refl
 

@@ -1,22 +1,28 @@
--- Words and cards are one to one: a card has the words it was made of, and of the words of a card that card is made.
+-- Which words are cards, by whole numbers; and words and cards are one to one: a card has the words it was made of, and of the words of a card that
+-- card is made.
 -- Assumes nothing.
 use Prim.Native.Nat.{ℕ}
-use mathlib.Core.Path.{_≡_, refl, sym, ap, _∙_}
-use mathlib.Core.Logic.{⊎-elim}
-use mathlib.Core.Bool.{Bool, true, false, _&&_, false≢true}
-use lib.Dec.{T}
+use mathlib.Core.Path.{_≡_, refl, ap, _∙_}
+use mathlib.Core.Bool.{Bool, true, false, _&&_}
+use lib.Dec.{T, leb, ltb}
 use lib.Ieee.{Float, nan, inf, fin, binary32, isNan, fits}
 use lib.Ieee.Bits.{ofBits-toBits}
 use Rattle.loops.specs.Loops.{pick}
-use Rattle.loops.proofs.BoolLaws.{decided, and-left, and-right, pick-true, pick-false}
+use Rattle.loops.proofs.BoolLaws.{pick-false}
 use Rattle.card.specs.declared.Card.{Card}
 use Rattle.card.specs.declared.CardCheck.{CardCheck}
 use Rattle.card.specs.declared.CardCheck.the-variants.{Good, Bad}
-use Rattle.card.specs.Card.{floatOf, lengthFit, cardFit, cardOf, cardAnswer, wordOf}
-use Rattle.card.proofs.LengthLaws.{length-zero}
-use Rattle.card.proofs.CardLaws.{fit-diameter, fit-width, word-back}
+use Rattle.card.specs.declared.GramsAnswer.the-variants.{Of, BadCard}
+use Rattle.card.specs.Card.{floatOf, lengthFit, cardFit, cardOf, cardAnswer, wordOf, gramsOf, gramsAnswer, gramsNumber}
+use Rattle.card.proofs.LengthLaws.{length-zero, length-is}
+use Rattle.card.proofs.CardLaws.{fit-diameter, fit-width, length-number, word-back}
 
--- ---- what the answer tells
+-- ---- which words are cards
+
+-- both are from 1 to the word of 2,000
+pub card-is : (d w : ℕ) → cardFit d w ≡ (ltb 0 d && leb d 0x44FA_0000) && (ltb 0 w && leb w 0x44FA_0000)
+unfolding cardFit
+card-is d w = rw (length-is d, length-is w)
 
 pub good-tells : (d w : ℕ) (c : Card) → cardAnswer d w ≡ Good c → (cardFit d w ≡ true) × (c ≡ cardOf d w)
 unfolding cardAnswer pick
@@ -39,7 +45,7 @@ bad-tells d w = go (cardFit d w)
 pub words-back : (d w : ℕ) (c : Card) → cardAnswer d w ≡ Good c → (wordOf (c .diameter) ≡ d) × (wordOf (c .width) ≡ w)
 words-back d w c e =
     let h = good-tells d w c e in
-    (ap (λ (k : Card). wordOf (k .diameter)) (h .1) ∙ word-back d (fit-diameter d w (h .0)), ap (λ (k : Card). wordOf (k .width)) (h .1) ∙ word-back w (fit-width d w (h .0)))
+    rw (h .1) (word-back d (fit-diameter d w (h .0)), word-back w (fit-width d w (h .0)))
 
 -- ---- from a card to words and back
 
@@ -54,12 +60,6 @@ word-fit nan h = unfold lengthFit wordOf pick in length-zero
 word-fit (inf s) h = ap lengthFit (float-back (inf s) h refl)
 word-fit (fin s m e) h = ap lengthFit (float-back (fin s m e) h refl)
 
-length-number : (x : Float) → lengthFit x ≡ true → isNan x ≡ false
-unfolding lengthFit isNan
-length-number nan h = absurd (false≢true h)
-length-number (inf s) h = refl
-length-number (fin s m e) h = refl
-
 picked : (a b : Bool) (x y : CardCheck) → (a ≡ true → b ≡ true → x ≡ y) → pick (a && b) x Bad ≡ pick (a && b) y Bad
 unfolding pick
 picked true true x y f = f refl refl
@@ -73,3 +73,9 @@ card-back c f g = rw (word-fit (c .diameter) f, word-fit (c .width) g) (picked _
   where
     same : lengthFit (c .diameter) ≡ true → lengthFit (c .width) ≡ true → Good (cardOf (wordOf (c .diameter)) (wordOf (c .width))) ≡ Good c
     same d w = rw (float-back (c .diameter) f (length-number _ d), float-back (c .width) g (length-number _ w))
+
+-- ---- the grams are refused, BAD CARD, exactly where the words are no card
+
+pub grams-refused : (d w : ℕ) → gramsNumber (gramsAnswer d w) ≡ pick (cardFit d w) 0 14
+unfolding gramsAnswer gramsNumber pick
+grams-refused d w = elim (cardFit d w) as (λ t. gramsNumber (pick t (Of (gramsOf d w)) BadCard) ≡ pick t 0 14) [ true ↦ refl | false ↦ refl ]

@@ -61,3 +61,8 @@ gramsOf d w = toBits binary64 (weight (floatOf d) (floatOf w))
 -- the answer to two words of which the grams are asked
 unfoldable pub gramsAnswer : ℕ → ℕ → GramsAnswer
 gramsAnswer d w = pick (cardFit d w) (Of (gramsOf d w)) BadCard
+
+-- the number of an answer: 0, or 14, BAD CARD
+unfoldable pub gramsNumber : GramsAnswer → ℕ
+gramsNumber (Of bits) = 0
+gramsNumber BadCard = 14
