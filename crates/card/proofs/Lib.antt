@@ -1,0 +1,5 @@
+pub mod LengthLaws
+pub mod CardLaws
+pub mod Theorems
+pub mod Examples
+pub mod Unique
