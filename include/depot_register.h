@@ -30,14 +30,15 @@ extern "C" {
 #define DEPOT_NUMBER_WORDS 1   /* room that depot_day_number's answer takes in `out` */
 #define DEPOT_DATE_WORDS 3     /* room that depot_date_of's answer takes in `out` */
 #define DEPOT_NEXT_WORDS 4     /* room that depot_next_date's answer takes in `out` */
-#define DEPOT_LAST_DAY 146096  /* the day number of 31 December 2399 */
+#define DEPOT_LAST_DAY 146096  /* the day number of 31 December 2399, the last that can be written */
 #define DEPOT_LINE_BYTES 120   /* the longest line that is not a BAD LINE, its line feed not counted */
 #define DEPOT_ANSWER_BYTES 64  /* room that every answer line has, its line feed counted */
 
 /* The answers. Each call checks in the order that stands with it, and the first that holds is the answer. */
 enum depot_answer {
     DEPOT_DONE = 0,
-    DEPOT_BAD_BOOK = 1,      /* the length is not 16,384 or, but for a setup, the book is not fit */
+    DEPOT_BAD_BOOK = 1,      /* the length is not 16,384 or, but for a setup, a count, a home or a part that the call reads
+                              * or writes is not fit (docs/LAYOUT.md) */
     DEPOT_BAD_DEPOT = 2,     /* a depot or a home is not below the count of depots */
     DEPOT_BAD_SHELF = 3,     /* a shelf is not below its count */
     DEPOT_BAD_KEY = 4,       /* a bearing is not below its count */
@@ -48,7 +49,8 @@ enum depot_answer {
     DEPOT_LINK_FULL = 9,     /* a write or a tick, and some link out has no room */
     DEPOT_CLOCK_AT_END = 10, /* a write or a tick, and the clock is 2,147,483,647 */
     DEPOT_BAD_COUNTS = 11,   /* a setup, and a count is out of range or the homes are not as many as the crews */
-    DEPOT_BAD_LINE = 13      /* depot_line only */
+    DEPOT_BAD_LINE = 13,     /* depot_line only */
+    DEPOT_BAD_DATE = 16      /* a write, and the value is over DEPOT_LAST_DAY */
 };
 
 /* Makes a fresh register: 1 to 4 depots, 1 to 4 shelves in each, 1 to 160 bearings, 1 to 16 crews, and the home depot of
@@ -59,10 +61,10 @@ uint32_t depot_setup(uint32_t *book, size_t words, uint32_t depots, uint32_t she
 /* A crew reads a bearing at its home. Checks: 1, 5, 4.
  * Done: out[0] is 1 for written, 0 for unwritten; out[1] the value, 0 if unwritten; out[2] to out[5] the entries of the
  * vector, 0 past the depots. No other element of `out` is written. With out_count below 6 the read is done, and nothing
- * is written to `out`. */
+ * is written to `out`. An old book may hold values over DEPOT_LAST_DAY: it is fit, and they are read as they are. */
 uint32_t depot_read(uint32_t *book, size_t words, uint32_t crew, uint32_t bearing, uint32_t *out, size_t out_count);
 
-/* A crew writes a bearing's value at its home. Checks: 1, 5, 4, 8, 10, 9.
+/* A crew writes a bearing's value, a day of the calendar below, at its home. Checks: 1, 5, 4, 16, 8, 10, 9.
  * Done: out[0] is the stamp; out[1] is 1 for current, 0 for superseded. No other element of `out` is written. With
  * out_count below 2 the write is done, and nothing is written to `out`. */
 uint32_t depot_write(uint32_t *book, size_t words, uint32_t crew, uint32_t bearing, uint32_t value, uint32_t *out,
@@ -97,10 +99,10 @@ size_t depot_line(uint32_t *book, size_t words, const uint8_t *line, size_t leng
  * number comes back all the same. No element past the answer is written. */
 enum depot_date_answer {
     DEPOT_DATE_GIVEN = 0,
-    DEPOT_BAD_DATE = 1,  /* there is no such date */
-    DEPOT_BAD_STEP = 2,  /* the step is not 1 to 120 months */
-    DEPOT_BAD_COUNT = 3, /* the count is 0 */
-    DEPOT_TOO_LATE = 4   /* the result lies after 2399; so does a day past DEPOT_LAST_DAY */
+    DEPOT_NO_SUCH_DATE = 1, /* there is no such date */
+    DEPOT_BAD_STEP = 2,     /* the step is not 1 to 120 months */
+    DEPOT_BAD_COUNT = 3,    /* the count is 0 */
+    DEPOT_TOO_LATE = 4      /* the result lies after 2399; so does a day past DEPOT_LAST_DAY */
 };
 
 /* 1 if there is such a date, else 0. */

@@ -4,6 +4,7 @@ use replay::event::Event;
 use replay::lines;
 use replay::random::Random;
 use replay::register::{Register, Straight, ANSWER_BYTES};
+use replay::values;
 use straight::layout::{clock, crew_vector, held, home, link, taken};
 use straight::{Counts, WORDS};
 
@@ -87,7 +88,7 @@ impl Course {
         };
         let found = (0..16).map(|_| (random.below(n.crews), random.below(n.bearings))).find(ready);
         let (crew, bearing) = found.unwrap_or((0, 0));
-        Event::Write { crew: crew as u32, bearing: bearing as u32, value: random.word() }
+        Event::Write { crew: crew as u32, bearing: bearing as u32, value: values::day(random) }
     }
 
     /// A tick of the shelf that is behind at some depot: it holds up what the others have sent.

@@ -28,10 +28,12 @@ pub enum Refusal {
     ClockAtEnd = 10,
     /// A count is out of range, or the homes are not as many as the crews.
     BadCounts = 11,
+    /// The value to write is over [`LAST_DAY`](crate::calendar::LAST_DAY), 146,096.
+    BadDate = 16,
 }
 
 impl Refusal {
-    const ALL: [Refusal; 11] = [
+    const ALL: [Refusal; 12] = [
         Refusal::BadBook,
         Refusal::BadDepot,
         Refusal::BadShelf,
@@ -43,6 +45,7 @@ impl Refusal {
         Refusal::LinkFull,
         Refusal::ClockAtEnd,
         Refusal::BadCounts,
+        Refusal::BadDate,
     ];
 
     /// The refusal's number.
@@ -74,6 +77,7 @@ impl fmt::Display for Refusal {
             Refusal::LinkFull => "a link out has no room",
             Refusal::ClockAtEnd => "the clock is at its end",
             Refusal::BadCounts => "a count is out of range, or the homes are not as many as the crews",
+            Refusal::BadDate => "the day is beyond the calendar",
         })
     }
 }

@@ -19,7 +19,7 @@ use std::fmt;
 
 use crate::raw;
 
-/// The day number of 31 December 2399.
+/// The day number of 31 December 2399: the last day that the calendar has, and the last that can be written.
 pub const LAST_DAY: u32 = 146_096;
 
 /// A year, a month from 1 to 12 and a day. Any numbers can be put in; [`is_date`] says whether there is such a date. Dates are

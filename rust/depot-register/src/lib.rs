@@ -51,6 +51,8 @@ pub mod raw;
 pub use answers::{Reading, Refusal, Written};
 pub use numbers::{Bearing, Crew, Depot, Shelf};
 
+/// The version of the register, as `include/depot_register.h` has it.
+pub const VERSION: &str = env!("CARGO_PKG_VERSION");
 /// The words of a book.
 pub const WORDS: usize = 16_384;
 /// The words of a version record.
@@ -125,6 +127,8 @@ impl Register {
     }
 
     /// A crew reads a bearing at its home. What the crew has seen before, it sees again, or something greater.
+    ///
+    /// An old book may hold values over [`LAST_DAY`](calendar::LAST_DAY); they are read as they are.
     pub fn read(&mut self, crew: Crew, bearing: Bearing) -> Result<Reading, Refusal> {
         let mut out = [0; 6];
         Refusal::check(raw::read(&mut self.book, crew.0, bearing.0, &mut out))?;
@@ -132,16 +136,17 @@ impl Register {
         Ok(if written == 1 { Reading::Written { value, vector: [a, b, c, d] } } else { Reading::Unwritten })
     }
 
-    /// A crew writes a bearing's value, a day, at its home.
+    /// A crew writes a bearing's value, a day from 0 to [`LAST_DAY`](calendar::LAST_DAY), at its home.
     ///
     /// ```
-    /// # use depot_register::{Bearing, Counts, Crew, Depot, Refusal, Register, Shelf, Written};
+    /// # use depot_register::{calendar::LAST_DAY, Bearing, Counts, Crew, Depot, Refusal, Register, Shelf, Written};
     /// # let counts = Counts { depots: 1, shelves: 2, bearings: 2, crews: 1 };
     /// # let mut register = Register::setup(counts, &[Depot(0)]).unwrap();
     /// assert_eq!(register.write(Crew(0), Bearing(0), 20), Ok(Written::Current { stamp: 1 }));
     /// assert_eq!(register.write(Crew(0), Bearing(1), 30), Err(Refusal::Wait)); // shelf 1's clock is behind the crew
     /// register.tick(Depot(0), Shelf(1)).unwrap();
     /// assert_eq!(register.write(Crew(0), Bearing(1), 30), Ok(Written::Current { stamp: 2 }));
+    /// assert_eq!(register.write(Crew(0), Bearing(1), LAST_DAY + 1), Err(Refusal::BadDate)); // 1 January 2400
     /// ```
     pub fn write(&mut self, crew: Crew, bearing: Bearing, value: u32) -> Result<Written, Refusal> {
         let mut out = [0; 2];

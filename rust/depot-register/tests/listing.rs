@@ -1,5 +1,6 @@
 //! The specification's listing, by lines and by typed calls.
 
+use depot_register::calendar::LAST_DAY;
 use depot_register::{Bearing, Counts, Crew, Depot, Reading, Refusal, Register, Shelf, Written};
 
 const COUNTS: Counts = Counts { depots: 2, shelves: 2, bearings: 4, crews: 2 };
@@ -56,6 +57,7 @@ fn refusals_have_their_numbers() {
     assert_eq!(register.refresh(Depot(0), Shelf(2)).unwrap_err().number(), 3);
     assert_eq!(register.take(Depot(0), Shelf(0), Depot(0)).unwrap_err().number(), 6);
     assert_eq!(register.take(Depot(0), Shelf(0), Depot(1)).unwrap_err().number(), 7);
+    assert_eq!(register.write(Crew(0), Bearing(0), LAST_DAY + 1).unwrap_err().number(), 16);
     assert_eq!(register, before);
     for _ in 0..16 {
         register.tick(Depot(0), Shelf(0)).unwrap();
@@ -65,6 +67,25 @@ fn refusals_have_their_numbers() {
     words[84 + 1] = 2_147_483_647;
     let mut register = Register::from_words(words).unwrap();
     assert_eq!(register.tick(Depot(0), Shelf(1)).unwrap_err().number(), 10);
+}
+
+#[test]
+fn the_last_day_and_what_lies_beyond() {
+    let mut register = fresh();
+    assert_eq!(register.write(Crew(0), Bearing(0), LAST_DAY), Ok(Written::Current { stamp: 1 }));
+    assert_eq!(register.write(Crew(0), Bearing(0), u32::MAX), Err(Refusal::BadDate));
+    assert_eq!(register.line(b"W 0 0 146097"), b"16\n");
+    // An old book with a value beyond the calendar, in the store and on the link.
+    let mut words = register.words().to_vec();
+    words[10_596 + 1] = LAST_DAY + 1;
+    words[356 + 160 + 2] = u32::MAX;
+    let mut old = Register::from_words(words).unwrap();
+    assert_eq!(old.read(Crew(0), Bearing(0)).unwrap().value(), Some(LAST_DAY + 1));
+    old.tick(Depot(0), Shelf(1)).unwrap();
+    old.take(Depot(1), Shelf(0), Depot(0)).unwrap();
+    old.take(Depot(1), Shelf(1), Depot(0)).unwrap();
+    old.refresh(Depot(1), Shelf(0)).unwrap();
+    assert_eq!(old.read(Crew(1), Bearing(0)).unwrap().value(), Some(u32::MAX));
 }
 
 #[test]

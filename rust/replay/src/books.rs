@@ -2,6 +2,7 @@
 
 use crate::event::Event;
 use crate::random::Random;
+use crate::values;
 use straight::layout::*;
 use straight::{is_fit, Counts};
 
@@ -132,7 +133,7 @@ fn version(
     entry: &dyn Fn(&mut Random) -> u32,
 ) {
     record[BEARING] = bearing as u32;
-    record[VALUE] = random.word();
+    record[VALUE] = values::in_book(random);
     record[ORIGIN] = origin as u32;
     (0..n.depots).for_each(|x| record[VECTOR + x] = entry(random));
     record[VECTOR + origin] = record[VECTOR + origin].max(1);

@@ -13,6 +13,7 @@ use crate::lines;
 use crate::parts::{looks, pieces, Call, Named};
 use crate::random::Random;
 use crate::register::{Register, Straight};
+use straight::calendar::LAST_DAY;
 use straight::layout::*;
 use straight::Counts;
 
@@ -129,8 +130,8 @@ fn event(random: &mut Random, n: Counts, kind: usize) -> Event {
     }
 }
 
-/// For a book, each call once, done if there is one that can be; one with a number out of range, by the kind of the book; and a
-/// line.
+/// For a book, each call once, done if there is one that can be; one with a number out of range, by the kind of the book; the
+/// write of a day beyond the calendar; and a line.
 fn calls(random: &mut Random, book: &[u32], kind: usize) -> Vec<Called> {
     let n = Counts::of(book);
     let done = |event: &Event| Step::new(event.clone()).run(&Straight, &mut book.to_vec()).number == 0;
@@ -154,6 +155,9 @@ fn calls(random: &mut Random, book: &[u32], kind: usize) -> Vec<Called> {
         2 => Event::Write { crew: 0, bearing: n.bearings as u32, value: 0 },
         _ => Event::Tick { depot: 0, shelf: n.shelves as u32 },
     });
+    if let Event::Write { crew, bearing, .. } = events[1] {
+        events.push(Event::Write { crew, bearing, value: LAST_DAY + 1 });
+    }
     let line = random.choose(&[0, 1, 2, 3, 4]);
     let text = lines::text(&events[line]);
     let mut calls: Vec<Called> =

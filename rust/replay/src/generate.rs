@@ -7,6 +7,8 @@ use crate::books::{counts, lay, setup, wrong_setup};
 use crate::event::{Event, Step, BUFFER, MOST_BYTES, MOST_OUT};
 use crate::lines;
 use crate::random::Random;
+use crate::values;
+use straight::calendar::LAST_DAY;
 use straight::layout::*;
 use straight::{counts_and_homes, is_fit, Counts};
 
@@ -188,7 +190,7 @@ impl Generator {
 
     /// A write, mostly one that need not wait.
     fn write(&mut self, book: &[u32], n: Counts) -> Event {
-        let value = if self.random.percent(90) { self.random.below(100) as u32 } else { self.random.word() };
+        let value = values::to_write(&mut self.random);
         let mut crew = self.random.below(n.crews);
         let mut bearing = self.bearing(n);
         for _ in 0..4 {
@@ -268,9 +270,14 @@ impl Generator {
             }
         };
         match &mut event {
-            Event::Read { crew, bearing } | Event::Write { crew, bearing, .. } => {
+            Event::Read { crew, bearing } => {
                 spoil(crew, n.crews);
                 spoil(bearing, n.bearings);
+            }
+            Event::Write { crew, bearing, value } => {
+                spoil(crew, n.crews);
+                spoil(bearing, n.bearings);
+                spoil(value, LAST_DAY as usize + 1);
             }
             Event::Tick { depot, shelf } | Event::Refresh { depot, shelf } => {
                 spoil(depot, n.depots);
@@ -354,6 +361,7 @@ impl Generator {
                 let (shelves, bearings) = (n.shelves as u32, n.bearings as u32);
                 self.random.choose(&[up, down, old.wrapping_add(shelves), bearings.wrapping_sub(1), bearings])
             }
+            (2, _) => values::in_book(&mut self.random),
             (5, _) | (_, 4..=19) => self.random.below(n.depots.min(4) + 1) as u32,
             (_, 228..=355) => self.random.choose(&[0, up, up, down, ROOM - 1, ROOM, ROOM + 1]),
             _ => self.random.choose(&[0, 1, up, down, END, END + 1]),

@@ -1,8 +1,8 @@
 //! Long random event lists, replayed on two registers side by side. After every event the answers and all words of the
 //! two books are compared. [`event`] says what an event is, [`generate`] makes lists of them, [`compare`] runs them, [`shrink`]
-//! finds the shortest list that shows a difference, and [`tally`] counts what was reached. [`damage`] spoils each word of a
-//! book in turn, for each call; [`parts`] says what a call looks at. [`slips`] are registers with one mistake each, to show
-//! that it would be found.
+//! finds the shortest list that shows a difference, and [`tally`] counts what was reached. [`values`] are those around the
+//! calendar's end. [`damage`] spoils each word of a book in turn, for each call; [`parts`] says what a call looks at. [`slips`]
+//! are registers with one mistake each, to show that it would be found.
 
 pub mod arguments;
 pub mod books;
@@ -19,3 +19,4 @@ pub mod shrink;
 pub mod slips;
 pub mod stream;
 pub mod tally;
+pub mod values;

@@ -29,8 +29,10 @@ pub fn damaged(random: &mut Random, call: &Event) -> Vec<u8> {
         5 => after_space(random, &mut line, b'0'),
         6 => after_space(random, &mut line, b'+'),
         7 => {
-            let number =
-                random.choose(&["4294967295", "4294967296", "4294967297", "9999999999", "10000000000", "18446744073709551616"]);
+            let number = random.choose(&[
+                "146095", "146096", "146097", "4294967295", "4294967296", "4294967297", "9999999999", "10000000000",
+                "18446744073709551616",
+            ]);
             last_number(&mut line, number);
         }
         8 => {

@@ -84,7 +84,7 @@ fn replay_all(other: &dyn Register, goal: Goal, first: u64) {
 fn damage_all(other: &dyn Register, rounds: u64, first: u64) {
     let start = Instant::now();
     // About so many damaged books has a round.
-    let mut progress = Progress::new("replay", "damaged books", rounds.saturating_mul(9 * 15_000));
+    let mut progress = Progress::new("replay", "damaged books", rounds.saturating_mul(10 * 15_000));
     let mut damaged = Damaged::default();
     for round in 0..rounds {
         one_round(other, first.wrapping_add(round), &mut damaged, &mut progress, |books| books);

@@ -3,13 +3,14 @@
 use std::fmt;
 
 use crate::event::{Event, Outcome, Step};
+use straight::calendar::LAST_DAY;
 use straight::layout::*;
 use straight::Counts;
 
 const CALLS: [&str; 7] = ["setup", "read", "write", "tick", "take", "refresh", "line"];
-const NAMES: [&str; 14] = [
+const NAMES: [&str; 17] = [
     "done", "BAD BOOK", "BAD DEPOT", "BAD SHELF", "BAD KEY", "BAD CREW", "SAME DEPOT", "EMPTY LINK", "WAIT", "LINK FULL",
-    "CLOCK AT END", "BAD COUNTS", "", "BAD LINE",
+    "CLOCK AT END", "BAD COUNTS", "", "BAD LINE", "", "", "BAD DATE",
 ];
 
 macro_rules! marks {
@@ -46,6 +47,14 @@ marks! {
     FullLater: "LINK FULL at a later link, an earlier one has room",
     Several: "a refused write or tick with two reasons or more",
     RoomAgain: "a send into the last room of a link that has given room back",
+    LastDay: "a write of day 146,096, done",
+    DayAfter: "a write of 146,097, BAD DATE",
+    LateAndMore: "BAD DATE, and WAIT, CLOCK AT END or LINK FULL would hold too",
+    LateNumber: "a write beyond 146,096 with a crew or a bearing out of range",
+    LatePart: "a write beyond 146,096, and BAD BOOK for a part of it",
+    LateRead: "a read of a value beyond 146,096",
+    LateStored: "a copy with a value beyond 146,096 shown and stored",
+    LineLate: "a line, BAD DATE",
     ToEnd: "a clock that reaches 2,147,483,647",
     BeatBehind: "a heartbeat taken from behind taken copies",
     BeatBefore: "a heartbeat taken with messages behind it",
@@ -75,7 +84,7 @@ pub struct Tally {
     pub events: u64,
     /// Lines that are BAD LINE.
     pub bad_lines: u64,
-    answers: [[u64; 14]; 7],
+    answers: [[u64; 17]; 7],
     marks: Vec<u64>,
     /// Whether the book is fit, as far as the last event that says so told.
     fit: bool,
@@ -83,7 +92,7 @@ pub struct Tally {
 
 impl Default for Tally {
     fn default() -> Tally {
-        Tally { events: 0, bad_lines: 0, answers: [[0; 14]; 7], marks: vec![0; MARKS.len()], fit: false }
+        Tally { events: 0, bad_lines: 0, answers: [[0; 17]; 7], marks: vec![0; MARKS.len()], fit: false }
     }
 }
 
@@ -141,10 +150,13 @@ impl Tally {
                 let raised = crew_vector(crew)..crew_vector(crew) + n.depots;
                 self.mark_if(before[raised.clone()] != after[raised], Mark::CrewRaised);
                 let record = stored(depot, bearing) + VECTOR;
-                self.mark_if(after[record..record + n.depots].iter().all(|&entry| entry == 0), Mark::Unwritten);
+                let unwritten = after[record..record + n.depots].iter().all(|&entry| entry == 0);
+                self.mark_if(unwritten, Mark::Unwritten);
+                self.mark_if(!unwritten && after[stored(depot, bearing) + VALUE] > LAST_DAY, Mark::LateRead);
                 self.shelf(n, before, after, depot, bearing % n.shelves);
             }
-            Event::Write { crew, bearing, .. } if done => {
+            Event::Write { crew, bearing, value } if done => {
+                self.mark_if(*value == LAST_DAY, Mark::LastDay);
                 let (crew, bearing) = (*crew as usize, *bearing as usize);
                 let depot = before[home(crew)] as usize;
                 let shelf = bearing % n.shelves;
@@ -157,7 +169,13 @@ impl Tally {
                 self.shelf(n, before, after, depot, shelf);
             }
             Event::Tick { depot, shelf } if done => self.sent(n, before, after, *depot as usize, *shelf as usize),
-            Event::Write { crew, bearing, .. } if outcome.number >= 8 => {
+            Event::Write { value, .. } if *value > LAST_DAY && outcome.number < 8 => {
+                self.mark_if(outcome.number > 1, Mark::LateNumber);
+                let part = || step.words == WORDS && straight::counts_and_homes(&before[..WORDS]);
+                self.mark_if(outcome.number == 1 && part(), Mark::LatePart);
+            }
+            Event::Write { crew, bearing, value } if outcome.number >= 8 => {
+                self.mark_if(*value == LAST_DAY + 1, Mark::DayAfter);
                 let depot = before[home(*crew as usize)] as usize;
                 let waits = before[crew_vector(*crew as usize) + depot] > before[clock(depot, *bearing as usize % n.shelves)];
                 self.not_sent(n, before, depot, *bearing as usize % n.shelves, waits, outcome.number);
@@ -210,6 +228,7 @@ impl Tally {
             }
         };
         self.answers[row][number] += 1;
+        self.mark_if(row == 6 && number == straight::Refusal::BadDate as usize, Mark::LineLate);
         if number == 13 {
             self.bad_lines += 1;
         } else {
@@ -274,7 +293,9 @@ impl Tally {
                 self.mark_if(stays, Mark::Middle);
                 let there = stored(depot, before[copy + BEARING] as usize);
                 let same = |a: usize, b: &[u32], length: usize| before[copy + a..][..length] == b[there + a..][..length];
-                self.mark(if same(0, after, RECORD) { Mark::Stored } else { Mark::Dropped });
+                let now_stored = same(0, after, RECORD);
+                self.mark(if now_stored { Mark::Stored } else { Mark::Dropped });
+                self.mark_if(now_stored && before[copy + VALUE] > LAST_DAY, Mark::LateStored);
                 self.mark_if(same(VECTOR, before, n.depots) && !same(ORIGIN, before, 1), Mark::Tied);
             }
             let untaken = before[held(link)] > before[taken(link)];
@@ -295,7 +316,9 @@ impl Tally {
         let links = || (0..n.depots).filter(|&to| to != depot).map(|to| link(shelf, depot, to));
         let full = |link: usize| book[held(link)] == ROOM;
         let reasons = waits as u32 + (book[clock(depot, shelf)] == END) as u32 + links().any(full) as u32;
-        self.mark_if(reasons > 1, Mark::Several);
+        let late = number == straight::Refusal::BadDate as usize;
+        self.mark_if(late && reasons > 0, Mark::LateAndMore);
+        self.mark_if(reasons + late as u32 > 1, Mark::Several);
         if number == straight::Refusal::LinkFull as usize {
             self.mark_if(links().filter(|&link| full(link)).all(|link| book[taken(link)] > 0), Mark::FullByTaken);
             self.mark_if(links().next().is_some_and(|link| !full(link)), Mark::FullLater);

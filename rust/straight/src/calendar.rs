@@ -13,6 +13,9 @@
 const FIRST_YEAR: u32 = 2000;
 const LAST_YEAR: u32 = 2399;
 
+/// The day number of 31 December 2399: the last day that the calendar has, and the last that can be written.
+pub const LAST_DAY: u32 = 146_096;
+
 /// The days of the twelve months, in a year that is no leap year.
 const MONTHS: [u32; 12] = [31, 28, 31, 30, 31, 30, 31, 31, 30, 31, 30, 31];
 
@@ -56,20 +59,21 @@ pub fn day_number(date: Date) -> Result<u32, NoDate> {
 
 /// The date of a day number.
 pub fn date_of(number: u32) -> Result<Date, NoDate> {
-    let mut left = number;
-    for year in FIRST_YEAR..=LAST_YEAR {
-        if left >= days_of_year(year) {
-            left -= days_of_year(year);
-            continue;
-        }
-        let mut month = 1;
-        while left >= days_of_month(year, month) {
-            left -= days_of_month(year, month);
-            month += 1;
-        }
-        return Ok(Date { year, month, day: left + 1 });
+    if number > LAST_DAY {
+        return Err(NoDate::TooLate);
     }
-    Err(NoDate::TooLate)
+    let mut left = number;
+    let mut year = FIRST_YEAR;
+    while left >= days_of_year(year) {
+        left -= days_of_year(year);
+        year += 1;
+    }
+    let mut month = 1;
+    while left >= days_of_month(year, month) {
+        left -= days_of_month(year, month);
+        month += 1;
+    }
+    Ok(Date { year, month, day: left + 1 })
 }
 
 /// The n-th date after an anchor in steps of so many months, and its day number: the anchor's day, or the month's last one

@@ -3,6 +3,7 @@
 //! BAD BOOK comes first in that table, for the length, the counts, the homes and the parts that the call names. A number out
 //! of range names no part, so each call checks its numbers between the two.
 
+use crate::calendar::LAST_DAY;
 use crate::fit::{counts_and_homes, counts_are_fit};
 use crate::layout::*;
 use crate::looks;
@@ -61,12 +62,15 @@ pub fn read(book: &mut [u32], crew: u32, bearing: u32) -> Result<Reading, Refusa
     Ok(Reading { value: if written { Some(book[record + VALUE]) } else { None }, vector })
 }
 
-/// A crew writes a bearing's value at its home depot.
+/// A crew writes a bearing's value, a day of the calendar, at its home depot.
 pub fn write(book: &mut [u32], crew: u32, bearing: u32, value: u32) -> Result<Written, Refusal> {
     let n = counts(book)?;
     let crew = below(crew, n.crews, Refusal::BadCrew)?;
     let bearing = below(bearing, n.bearings, Refusal::BadKey)?;
     fit(looks::write(book, n, crew, bearing))?;
+    if value > LAST_DAY {
+        return Err(Refusal::BadDate);
+    }
     let depot = book[home(crew)] as usize;
     let shelf = bearing % n.shelves;
     let mine = vector(book, n, crew_vector(crew));

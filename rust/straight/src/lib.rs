@@ -44,4 +44,5 @@ pub enum Refusal {
     ClockAtEnd = 10,
     BadCounts = 11,
     BadLine = 13,
+    BadDate = 16,
 }

@@ -1,6 +1,6 @@
 //! The dates that the specification gives, and what follows from its rules.
 
-use straight::calendar::{date_of, day_number, is_date, next_date, Date, NoDate};
+use straight::calendar::{date_of, day_number, is_date, next_date, Date, NoDate, LAST_DAY};
 
 /// 1 January 2400 would be this day.
 const END: u32 = 146_097;
@@ -21,7 +21,10 @@ fn the_dates_of_the_specification() {
     assert_eq!(day_number(date(2000, 1, 1)), Ok(0));
     assert_eq!(day_number(date(2000, 3, 1)), Ok(60));
     assert_eq!(day_number(date(2399, 12, 31)), Ok(END - 1));
+    assert_eq!(LAST_DAY, END - 1);
+    assert_eq!(date_of(LAST_DAY), Ok(date(2399, 12, 31)));
     assert_eq!(date_of(END), Err(NoDate::TooLate));
+    assert_eq!(date_of(u32::MAX), Err(NoDate::TooLate));
     assert_eq!(next(date(2023, 1, 31), 1, 1), Ok(date(2023, 2, 28)));
     assert_eq!(next(date(2023, 1, 31), 1, 2), Ok(date(2023, 3, 31)));
     assert_eq!(next(date(2024, 1, 31), 1, 1), Ok(date(2024, 2, 29)));

@@ -1,6 +1,7 @@
 //! The specification's listing and its entries (a) to (i).
 
-use straight::layout::{clock, stable, VECTOR};
+use straight::calendar::LAST_DAY;
+use straight::layout::{clock, crew_vector, held, link, slot, stable, stored, COPY, END, VALUE, VECTOR};
 use straight::{desk, is_fit, layout, line, read, refresh, setup, take, tick, write, Reading, Refusal, Written, WORDS};
 
 const LISTING: &str = "S 2 2 4 2 0 1\nR 0 0\nW 0 0 20\nW 0 1 30\nK 0 1\nW 0 1 30\nT 1 0 0\nF 1 0\nR 1 0\nT 1 1 0\nF 1 0\nR 1 0\n";
@@ -136,6 +137,66 @@ fn case_i_one_depot() {
 }
 
 #[test]
+fn dates_beyond_the_calendar() {
+    let mut book = fresh();
+    let before = book.clone();
+    for late in [LAST_DAY + 1, 1 << 31, u32::MAX] {
+        assert_eq!(write(&mut book, 0, 0, late), Err(Refusal::BadDate), "{}", late);
+    }
+    assert!(book == before, "a refusal moves no word");
+    assert_eq!(Refusal::BadDate as u32, 16);
+    for (stamp, day) in [(1, LAST_DAY - 1), (2, LAST_DAY)] {
+        assert_eq!(write(&mut book, 0, 0, day), Ok(Written { stamp, current: true }));
+        assert_eq!(read(&mut book, 0, 0), reads(day, [stamp, 0, 0, 0]));
+    }
+}
+
+/// The order of a write's checks: 1, 5, 4, 16, 8, 10, 9.
+#[test]
+fn bad_date_in_its_place() {
+    let late = LAST_DAY + 1;
+    assert_eq!(write(&mut [0; WORDS], 0, 0, late), Err(Refusal::BadBook));
+    let mut book = fresh();
+    assert_eq!(write(&mut book[1..], 0, 0, late), Err(Refusal::BadBook));
+    assert_eq!(write(&mut book, 2, 4, late), Err(Refusal::BadCrew));
+    assert_eq!(write(&mut book, 0, 4, late), Err(Refusal::BadKey));
+    for (day, wait, end, full) in [
+        (late, Refusal::BadDate, Refusal::BadDate, Refusal::BadDate),
+        (LAST_DAY, Refusal::Wait, Refusal::ClockAtEnd, Refusal::LinkFull),
+    ] {
+        let mut book = fresh();
+        book[crew_vector(0)] = 1;
+        assert_eq!(write(&mut book, 0, 0, day), Err(wait));
+        let mut book = fresh();
+        book[clock(0, 0)] = END;
+        assert_eq!(write(&mut book, 0, 0, day), Err(end));
+        let mut book = fresh();
+        (0..16).for_each(|_| assert_eq!(tick(&mut book, 0, 0), DONE));
+        assert_eq!(write(&mut book, 0, 0, day), Err(full));
+    }
+}
+
+/// A book from before may hold any value: it is fit, and the value is read, taken and shown as before.
+#[test]
+fn late_dates_of_old_books() {
+    for late in [LAST_DAY + 1, u32::MAX] {
+        let mut book = fresh();
+        assert_eq!(write(&mut book, 0, 0, 20), Ok(Written { stamp: 1, current: true }));
+        let copy = slot(link(0, 0, 1), 0);
+        assert_eq!((book[held(link(0, 0, 1))], book[copy]), (1, COPY));
+        book[stored(0, 0) + VALUE] = late;
+        book[copy + 1 + VALUE] = late;
+        assert!(is_fit(&book));
+        assert_eq!(line(&mut book, b"R 0 0"), format!("0 {} 1 0\n", late));
+        assert_eq!(tick(&mut book, 0, 1), DONE);
+        round(&mut book, 2, 2);
+        assert!(is_fit(&book));
+        assert_eq!(read(&mut book, 1, 0), reads(late, [1, 0, 0, 0]));
+        assert_eq!(write(&mut book, 1, 0, late), Err(Refusal::BadDate), "and cannot be written again");
+    }
+}
+
+#[test]
 fn setup_looks_at_no_old_word() {
     let mut book = vec![u32::MAX; WORDS];
     assert_eq!(read(&mut book, 0, 0), Err(Refusal::BadBook));
@@ -194,9 +255,11 @@ fn lines_that_are_bad() {
     };
     assert_eq!(answer(&long(120)), "2\n");
     assert_eq!(answer(&long(121)), "13\n");
-    for good in ["R 0 0", "W 0 0 4294967295", "K 0 0", "F 1 1", "S 1 1 1 1 0"] {
+    for good in ["R 0 0", "W 0 0 146096", "K 0 0", "F 1 1", "S 1 1 1 1 0"] {
         assert!(answer(good).starts_with('0'), "{}", good);
     }
+    assert_eq!(answer("W 0 0 146097"), "16\n");
+    assert_eq!(answer("W 0 0 4294967295"), "16\n", "a number in the right form");
     assert_eq!(answer("S 1 1 1 0"), "11\n");
     assert_eq!(answer(&format!("S 4 4 160 17{}", " 0".repeat(16))), "11\n", "20 numbers");
     let bad = [

@@ -1,5 +1,6 @@
 //! BAD BOOK means the parts that a call names, and an unfit word elsewhere stays as it is.
 
+use straight::calendar::LAST_DAY;
 use straight::layout::*;
 use straight::{is_fit, read, refresh, setup, take, tick, write, Refusal, WORDS};
 
@@ -130,6 +131,7 @@ fn a_number_out_of_range_names_no_part() {
     assert_eq!(read(&mut book, 0, 6).map(|_| ()), Err(Refusal::BadKey));
     assert_eq!(write(&mut book, 3, 6, 0).map(|_| ()), Err(Refusal::BadCrew));
     assert_eq!(write(&mut book, 0, 6, 0).map(|_| ()), Err(Refusal::BadKey));
+    assert_eq!(write(&mut book, 0, 6, u32::MAX).map(|_| ()), Err(Refusal::BadKey));
     assert_eq!(tick(&mut book, 3, 2), Err(Refusal::BadDepot));
     assert_eq!(tick(&mut book, 0, 2), Err(Refusal::BadShelf));
     assert_eq!(take(&mut book, 0, 2, 3), Err(Refusal::BadDepot));
@@ -156,6 +158,7 @@ fn bad_book_goes_before_the_refusals_of_a_state() {
     assert_eq!(WRITE(&mut book), Err(Refusal::Wait));
     book[stored(1, 0) + VECTOR] = UNFIT;
     assert_eq!(WRITE(&mut book), Err(Refusal::BadBook), "and not WAIT");
+    assert_eq!(write(&mut book, 1, 2, LAST_DAY + 1).map(|_| ()), Err(Refusal::BadBook), "and not BAD DATE");
     let mut book = busy();
     book[seen(0, 1, 1)] = UNFIT;
     assert_eq!(take(&mut book, 0, 1, 1), Err(Refusal::BadBook), "and not EMPTY LINK");

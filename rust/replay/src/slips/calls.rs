@@ -4,6 +4,7 @@ use std::cmp::Ordering;
 
 use super::{Slip, Slipped};
 use crate::event::Event;
+use straight::calendar::LAST_DAY;
 use straight::layout::*;
 use straight::{below, vector, Counts, Reading, Refusal, Written};
 
@@ -45,31 +46,52 @@ impl Slipped {
             }
         }
         let value = book[record + VALUE];
-        let written = vector != [0; 4] && !(self.has(Slip::ZeroUnwritten) && value == 0);
+        let hidden = (self.has(Slip::ZeroUnwritten) && value == 0) || (self.has(Slip::LateUnwritten) && value > LAST_DAY);
+        let written = vector != [0; 4] && !hidden;
         Ok(Reading { value: if written { Some(value) } else { None }, vector })
     }
 
     pub(super) fn call_write(&self, book: &mut [u32], crew: u32, bearing: u32, value: u32) -> Answer<Written> {
         let event = Event::Write { crew, bearing, value };
-        let n = self.counts(book, &event)?;
-        let (crew, bearing) = self.crew_and_bearing(book, n, crew, bearing)?;
+        let late = self.late(value);
+        // BAD DATE in place of another refusal.
+        let sooner = |slip: Slip, refusal: Refusal| if late && self.has(slip) { Refusal::BadDate } else { refusal };
+        let n = self.counts(book, &event).map_err(|refusal| sooner(Slip::DateBeforeBook, refusal))?;
+        let (crew, bearing) = self.crew_and_bearing(book, n, crew, bearing).map_err(|refusal| match refusal {
+            Refusal::BadCrew => sooner(Slip::DateBeforeCrew, refusal),
+            Refusal::BadKey => sooner(Slip::DateBeforeKey, refusal),
+            _ => refusal,
+        })?;
+        let look = |book: &[u32]| self.look(book, n, &event).map_err(|refusal| sooner(Slip::DateBeforeParts, refusal));
         if !self.has(Slip::WaitFirst) {
-            self.look(book, n, &event)?;
+            look(book)?;
         }
         let depot = book[home(crew)] as usize;
         let shelf = bearing % n.shelves;
         let mine = vector(book, n, crew_vector(crew));
         let now = book[clock(depot, shelf)];
         let waits = mine[depot] > now || (self.has(Slip::WaitAtEqual) && mine[depot] == now && now > 0);
-        if waits && !self.has(Slip::WaitAfterEnd) {
-            return Err(Refusal::Wait);
-        }
         if self.has(Slip::WaitFirst) {
-            self.look(book, n, &event)?;
+            if waits && !late {
+                return Err(Refusal::Wait);
+            }
+            look(book)?;
+        }
+        if late && self.has(Slip::DateAfterShow) {
+            self.raise_and_show(book, n, depot, shelf, mine);
+        }
+        if late && !(waits && self.has(Slip::DateAfterWait)) && !self.has(Slip::DateAfterRoom) {
+            return Err(Refusal::BadDate);
+        }
+        if waits && !self.has(Slip::WaitAfterEnd) {
+            return Err(if late && self.has(Slip::DateAfterRoom) { Refusal::BadDate } else { Refusal::Wait });
         }
         self.can_send(book, n, depot, shelf, !self.has(Slip::WriteFindsFull))?;
         if waits {
             return Err(Refusal::Wait);
+        }
+        if late {
+            return Err(Refusal::BadDate);
         }
 
         self.raise_and_show(book, n, depot, shelf, mine);
@@ -200,6 +222,16 @@ impl Slipped {
         Ok(())
     }
 
+    /// Whether a value is beyond the calendar.
+    fn late(&self, value: u32) -> bool {
+        let last = match self.0 {
+            Slip::LastDayRefused => LAST_DAY - 1,
+            Slip::DayAfterPasses => LAST_DAY + 1,
+            _ => LAST_DAY,
+        };
+        value > last
+    }
+
     fn crew_and_bearing(&self, book: &[u32], n: Counts, crew: u32, bearing: u32) -> Answer<(usize, usize)> {
         if self.has(Slip::HomeBeforeCrew) && book.get(4 + crew as usize).is_some_and(|&home| home as usize >= n.depots) {
             return Err(Refusal::BadDepot);
@@ -267,7 +299,8 @@ impl Slipped {
     /// A record goes to the depot's store if it is greater. A slip may meet one of no bearing.
     fn store(&self, book: &mut [u32], n: Counts, depot: usize, record: usize) {
         let there = stored(depot, book[record + BEARING] as usize % n.bearings);
-        let greater = self.above(&book[record..][..RECORD], &book[there..][..RECORD], n.depots);
+        let dropped = self.has(Slip::LateNotStored) && book[record + VALUE] > LAST_DAY;
+        let greater = !dropped && self.above(&book[record..][..RECORD], &book[there..][..RECORD], n.depots);
         if greater || self.has(Slip::LatestCopyKept) {
             book.copy_within(record..record + RECORD, there);
             if self.has(Slip::SpareCleared) {

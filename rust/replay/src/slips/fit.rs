@@ -2,6 +2,7 @@
 
 use super::{Slip, Slipped};
 use crate::parts::{pieces, Piece};
+use straight::calendar::LAST_DAY;
 use straight::layout::*;
 use straight::Counts;
 
@@ -80,7 +81,9 @@ impl Slipped {
     fn copy(&self, record: &[u32], n: Counts, shelf: usize, from: usize) -> bool {
         let bearing = record[BEARING] as usize;
         let origin = record[ORIGIN] as usize;
-        (origin == from || (self.has(Slip::FitAnyOrigin) && origin < n.depots))
+        let late = self.has(Slip::FitCopyDate) && record[VALUE] > LAST_DAY;
+        !late
+            && (origin == from || (self.has(Slip::FitAnyOrigin) && origin < n.depots))
             && bearing < n.bearings
             && (bearing % n.shelves == shelf || self.has(Slip::FitAnyShelf))
             && self.entries(&record[VECTOR..], n)
@@ -95,7 +98,9 @@ impl Slipped {
         if unwritten {
             return place || record[BEARING] == 0 || !self.has(Slip::FitUnwritten);
         }
-        place
+        let late = self.has(Slip::FitStoredDate) && record[VALUE] > LAST_DAY;
+        !late
+            && place
             && origin < n.depots
             && self.entries(&record[VECTOR..], n)
             && (record[VECTOR + origin] > 0 || self.has(Slip::FitNoStamp))

@@ -45,6 +45,7 @@ impl Slipped {
                     number => number,
                 }
             }
+            (b'W', [_, _, value]) if self.has(Slip::LineDate) && *value > straight::calendar::LAST_DAY => 13,
             (b'W', [crew, bearing, value, rest @ ..]) if rest.is_empty() || more => {
                 match write_answer(self.call_write(book, *crew, *bearing, *value), &mut out) {
                     0 => return format!("0 {} {}\n", out[0], if out[1] == 1 { "C" } else { "S" }),

@@ -107,6 +107,28 @@ slips! {
     CrewNotRaised,
     /// A bearing with value 0 counts as unwritten.
     ZeroUnwritten,
+    /// A write of the last day, 146,096, is BAD DATE.
+    LastDayRefused,
+    /// A write of the day after the last, 146,097, passes.
+    DayAfterPasses,
+    /// BAD DATE is noticed before the length, the counts and the homes are looked at.
+    DateBeforeBook,
+    /// BAD DATE is noticed before BAD CREW.
+    DateBeforeCrew,
+    /// BAD DATE is noticed before BAD KEY.
+    DateBeforeKey,
+    /// BAD DATE is noticed before the parts are looked at.
+    DateBeforeParts,
+    /// BAD DATE is noticed after WAIT.
+    DateAfterWait,
+    /// BAD DATE is noticed after the clock's end and a full link.
+    DateAfterRoom,
+    /// BAD DATE is noticed when versions have been shown.
+    DateAfterShow,
+    /// A read of a value beyond the calendar answers unwritten.
+    LateUnwritten,
+    /// A copy with a value beyond the calendar is not stored.
+    LateNotStored,
     /// WAIT is noticed after the clock's end.
     WaitAfterEnd,
     /// A full link is noticed before the clock's end.
@@ -167,6 +189,10 @@ slips! {
     FitAnyShelf,
     /// Fit: a copy's origin may be another depot.
     FitAnyOrigin,
+    /// Fit: a stored version with a value beyond the calendar does not pass.
+    FitStoredDate,
+    /// Fit: a copy with a value beyond the calendar does not pass.
+    FitCopyDate,
     /// Fit: the bearing of an unwritten record is looked at.
     FitUnwritten,
     /// Fit: a link of a depot to itself is looked at.
@@ -233,6 +259,8 @@ slips! {
     LineSpace,
     /// More numbers than the event has pass.
     LineMore,
+    /// A W line with a value beyond the calendar is BAD LINE.
+    LineDate,
 }
 
 /// The straight version with a mistake.
