@@ -23,7 +23,7 @@ pub fit-length : (l : List ℕ) → (length l ≡ bookWords → ⊥) → fit l �
 unfolding fit
 fit-length l h = and-stop _ (ne-eqb _ _ h)
 
--- the book of document 01's setup line, `S 2 2 4 2 0 1`
+-- the book of the paper's setup line, `S 2 2 4 2 0 1`
 pub listing-fit : fit (2 ∷ 2 ∷ 4 ∷ 2 ∷ 0 ∷ 1 ∷ replicate 16378 0) ≡ true
 unfolding fit between inRange othersInRange countsFit homeFit crewFit clockFit stableFit seenFit shelfFit versionFit headFit messagesFit linkFit keptFit storedFit homesFit crewsFit shelvesFit linksFit storesFit partsFit every covered zeros part
 listing-fit = refl

@@ -1,4 +1,4 @@
--- When a book is fit: document 01's list, one definition for each part and their conjunction. Every word that no definition reads is
+-- When a book is fit: the paper's list, one definition for each part and their conjunction. Every word that no definition reads is
 -- unused and may hold anything.
 -- Assumes nothing.
 use Prim.Native.Nat.{ℕ, _+_, _-_, _%_, _≤_, _<_}

@@ -1,4 +1,4 @@
--- Lines of document 01 and of its slips, read by computing, and answers of its listing, printed so.
+-- Lines of the paper and of its slips, read by computing, and answers of its listing, printed so.
 -- Assumes nothing.
 use Prim.Native.Nat.{ℕ, zero, suc}
 use mathlib.Core.Path.{_≡_, refl}

@@ -1,4 +1,4 @@
--- Worked comparisons that the laws alone do not decide, each computed: that of document 01's cases (e) and (f), and one for each of the order's
+-- Worked comparisons that the laws alone do not decide, each computed: that of the paper's cases (e) and (f), and one for each of the order's
 -- three rules.
 -- Assumes nothing.
 use Prim.Native.Nat.{ℕ, zero, suc, _<_}

@@ -1,4 +1,4 @@
--- Each answer as document 01 has it: the number of a refusal, and of what is done its values.
+-- Each answer as the paper has it: the number of a refusal, and of what is done its values.
 -- Assumes nothing.
 use Prim.Native.Nat.{ℕ}
 use mathlib.Core.Path.{_≡_}

@@ -1,4 +1,4 @@
--- The calls between setups and what they answer, as document 01 has them. Model, register and desk all speak of these.
+-- The calls between setups and what they answer, as the paper has them. Model, register and desk all speak of these.
 -- Assumes nothing.
 use Prim.Native.Nat.{ℕ}
 use mathlib.Core.Path.{_≡_}

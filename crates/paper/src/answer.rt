@@ -1,4 +1,4 @@
-// What a call answers. A definition in specs/Answers.antt gives document 01's number and values for each case.
+// What a call answers. A definition in specs/Answers.antt gives the paper's number and values for each case.
 
 // Why a call was refused.
 pub enum Refusal {

@@ -1,4 +1,4 @@
-// The paper: what is asked of a register and what it answers, as document 01 has them.
+// The paper: what is asked of a register and what it answers, as docs/DESK.md tells.
 pub mod answer;
 pub mod number;
 pub mod request;

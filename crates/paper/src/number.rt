@@ -1,4 +1,4 @@
-// Document 01's number of each refusal, and of the reply to any request.
+// The paper's number of each refusal, and of the reply to any request.
 use crate::answer::Outcome;
 use crate::answer::Refusal;
 use crate::answer::Reply;

@@ -1,4 +1,4 @@
--- When the desk says no: the checks of each call in their order, as document 01's table has them. The number of a call is that of the first
+-- When the desk says no: the checks of each call in their order, as the paper's table has them. The number of a call is that of the first
 -- check that fails it, and 0, done, otherwise.
 -- Assumes nothing.
 use Prim.Native.Nat.{ℕ, _%_}

@@ -1,4 +1,4 @@
-// The checks that calls share, in the order of document 01's table: the book's length, its counts and homes, then the numbers. A number that passed has its own type from here on.
+// The checks that calls share, in the order of the paper's table: the book's length, its counts and homes, then the numbers. A number that passed has its own type from here on.
 use book::numbers::Bearing;
 use book::numbers::BearingCheck;
 use book::numbers::Crew;

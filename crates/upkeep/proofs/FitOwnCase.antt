@@ -19,7 +19,7 @@ use Rattle.register.specs.Table.{readNumber, writeNumber, tickNumber, refreshNu
 use Rattle.upkeep.specs.Requests.{call, numberAt}
 use Rattle.upkeep.specs.Own.{aClock, fitPart}
 
--- the book of document 01's setup line, `S 2 2 4 2 0 1`, but for the clock of shelf 1 of depot 1, which is past the end
+-- the book of the paper's setup line, `S 2 2 4 2 0 1`, but for the clock of shelf 1 of depot 1, which is past the end
 pub torn : List ℕ
 torn = (2 ∷ 2 ∷ 4 ∷ 2 ∷ 0 ∷ 1 ∷ replicate 83 0) ++ (4294967295 ∷ replicate 16294 0)
 
