@@ -24,6 +24,7 @@ pub mod TheBridge
 pub mod Agrees
 pub mod Followed
 pub mod BookDemand1
+pub mod DatesExist
 pub mod TheDemands
 pub mod LastSetup
 pub mod ListingHolds

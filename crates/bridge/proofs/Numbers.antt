@@ -9,7 +9,7 @@ use lib.Dec.{eqb, ltb, leb}
 use borrow.Author.Tests.{leb-false, lt-ltb, eqb-false}
 use Rattle.loops.specs.Loops.{pick}
 use Rattle.loops.proofs.BoolLaws.{pick-true, pick-false}
-use Rattle.paper.specs.Calls.{Call, read, write, tick, take, refresh, first, answerBy}
+use Rattle.paper.specs.Calls.{lastDay, Call, read, write, tick, take, refresh, first, answerBy}
 use Rattle.book.specs.Layout.{home, crewVector, clock}
 use Rattle.fit.specs.Fit.{fit}
 use Rattle.named.proofs.NamedLaws.{fit-tick, fit-take, fit-refresh, fit-read, fit-write}
@@ -79,7 +79,7 @@ module _ (l : List ℕ) (F : fit l ≡ true) where
   unfolding table.writeNumber first calls.refusal calls.shelfOf view end
   write-number c k value =
       pick-false _ _ (fit-passes (fit-write l F c k))
-      ∙ pick-else (leb (countsIn l .crews) c) 5 λ kc. pick-else (leb (countsIn l .bearings) k) 4 λ kk.
+      ∙ pick-else (leb (countsIn l .crews) c) 5 λ kc. pick-else (leb (countsIn l .bearings) k) 4 λ kk. pick-else (ltb lastDay value) 16 λ kv.
       let c< = leb-false _ c kc in
       let S = sound l F in
       let s = k % countsIn l .shelves in

@@ -20,6 +20,7 @@ use Rattle.bridge.proofs.SetupView.{setup-open, setup-model}
 use Rattle.bridge.proofs.Agrees.{sound-by}
 use Rattle.bridge.proofs.Followed.{agrees-start, book-follows, followed}
 use Rattle.bridge.proofs.BookDemand1.{book-demand1}
+use Rattle.bridge.proofs.DatesExist.{dates-exist}
 
 -- the desk's lines
 desk-as-model : (l : List ℕ) (n : Counts) (homes : List ℕ) → setupNumber l n homes ≡ 0 → DeskAsModel n homes
@@ -35,9 +36,11 @@ desk-as-model l n homes done = record {
 pub the-demands : (l : List ℕ) (n : Counts) (homes : List ℕ) → setupNumber l n homes ≡ 0 → Demands n homes
 the-demands l n homes done =
     let follows = book-follows l n homes done in
+    let others = transfer.demands-from follows (sound-by (toModel n) _ _ (agrees-start l n homes done) .small .shelf) (met.the-demands (toModel n) homes (setup-model (setup-open l n homes done))) in
     record {
       first = book-demand1 l n homes done;
       as-model = record { numbers = λ h q. transfer.alike follows h .number q; answers = λ h q. transfer.alike follows h .answer q; leaves = λ h. followed l n homes done h .views };
       desk = desk-as-model l n homes done;
-      others = transfer.demands-from follows (sound-by (toModel n) _ _ (agrees-start l n homes done) .small .shelf) (met.the-demands (toModel n) homes (setup-model (setup-open l n homes done)));
+      others = others;
+      dates = dates-exist n homes (others .besides);
     }

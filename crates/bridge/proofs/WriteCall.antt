@@ -48,7 +48,7 @@ use Rattle.bridge.proofs.Assembly.{counts-same, view-by, Does, bridged}
 
 module _ (l : List ℕ) (F : fit l ≡ true) (c k value : ℕ) where
   module _ (z : writeNumber l c k value ≡ 0) where
-    o : WriteDone l c k
+    o : WriteDone l c k value
     o = write-done l c k value z
 
     abbrev d : ℕ

@@ -2,8 +2,11 @@
 -- Assumes nothing.
 use Prim.Native.Nat.{ℕ, _≤_, _<_}
 use mathlib.Core.Path.{_≡_}
+use mathlib.Core.Logic.{_⊎_}
 use mathlib.Core.Bool.{true}
 use mathlib.Core.List.{List, [], _∷_, _++_}
+use Rattle.order.specs.Vector.{zeros}
+use Rattle.order.specs.Record.{valueOf, vectorOf}
 use Rattle.book.specs.declared.parts.Counts.{Counts}
 use Rattle.book.specs.Layout.{countsOf, home, linkOf, held, taken, stored}
 use Rattle.fit.specs.Fit.{fit}
@@ -16,12 +19,22 @@ use Rattle.events.specs.Answering as events
 use Rattle.calls.specs.Performed.{requestOf}
 use Rattle.reply.specs.Printed.{printed}
 use Rattle.events.specs.Answering.{lineFeed, answerTo}
+use Rattle.calendar.specs.Dates.{dateAnswer}
+use Rattle.calendar.specs.Promises.{Good}
+use Rattle.calendar.specs.declared.answers.Date.{Date}
+use Rattle.calendar.specs.declared.answers.DateAnswer.the-variants.{On}
 use Rattle.model.specs.Calls.{refusal, step}
 use Rattle.model.specs.System.{after, ofModel}
 use Rattle.model.specs.Demands as demands
 use Rattle.bridge.specs.View.{toModel, view}
 use Rattle.upkeep.specs.Requests.{Request, call, Called, numberAt, replyTo, bookAfter}
 use Rattle.bridge.specs.Systems.{ofBooks}
+
+-- the day number k has a date: one that exists and has the number k, and it is what the calendar answers
+pub record HasDate (k : ℕ) : Type 0 where
+  pub date : Date
+  pub answer : dateAnswer k ≡ On date k
+  pub good : Good date k
 
 module _ (n : Counts) (homes : List ℕ) where
   -- the book after history h, newest call first
@@ -59,8 +72,14 @@ module _ (n : Counts) (homes : List ℕ) where
     pub leaves : (h : List Call) (line : List ℕ) (e : Event) (numbers : List ℕ) (q : Call) → reading line ≡ good e numbers → requestOf e numbers ≡ call q
         → events.bookAfter (bookOf h) line ≡ bookOf (q ∷ h)
 
+  -- every date that is stored exists: after every history a bearing is unwritten at a depot, or its value has a date and the calendar answers it
+  pub record DatesExist : Type 0 where
+    pub stored-dates : (h : List Call) (d k : ℕ) → d < n .depots → k < n .bearings
+        → (zeros (n .depots) (vectorOf (stored (bookOf h) d k)) ≡ true) ⊎ HasDate (valueOf (stored (bookOf h) d k))
+
   pub record Demands : Type 0 where
     pub first : Demand1
     pub as-model : AsModel
     pub desk : DeskAsModel
     pub others : demands.Demands (toModel n) (ofBooks n homes)
+    pub dates : DatesExist

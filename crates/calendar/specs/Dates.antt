@@ -4,16 +4,13 @@ use Prim.Native.Nat.{ℕ, zero, suc, _+_, _-_, _*_}
 use mathlib.Core.Bool.{Bool, _&&_}
 use lib.Dec.{leb}
 use Rattle.loops.specs.Loops.{pick}
+use Rattle.paper.specs.Calls.{lastDay}
 use Rattle.months.specs.Months.{firstYear, lastYear, daysIn, yearOf, monthOf, start}
 use Rattle.calendar.specs.declared.answers.Date.{Date}
 use Rattle.calendar.specs.declared.answers.DateRefusal.{DateRefusal}
 use Rattle.calendar.specs.declared.answers.DateRefusal.the-variants.{BadDate, BadStep, BadCount, TooLate}
 use Rattle.calendar.specs.declared.answers.DateAnswer.{DateAnswer}
 use Rattle.calendar.specs.declared.answers.DateAnswer.the-variants.{Refused, On}
-
--- the last day, 31 December 2399
-abbrev pub lastDay : ℕ
-lastDay = 146096
 
 -- the refusals and their numbers, in the order in which they are looked for
 --   1 the anchor is no date · 2 the step is not 1 to 120 months · 3 the count is 0 · 4 the result lies after 2399

@@ -6,18 +6,18 @@ use months::days_in_month;
 use months::starts::MONTHS;
 use months::starts::month_start;
 use months::starts::month_starts;
+use paper::request::LAST_DAY;
 ghost use mathlib.Core.Path.{_≡_};
 ghost use mathlib.Core.Bool.{true};
 ghost use Prim.Native.Nat.{_≤_, _<_, min};
 ghost use Rattle.months.specs.Months.{months, Starts};
-ghost use Rattle.calendar.specs.Dates.{lastDay, isDate, monthIndex, dateIn, monthOn, numberAnswer, dateAnswer};
+ghost use Rattle.paper.specs.Calls.{lastDay};
+ghost use Rattle.calendar.specs.Dates.{isDate, monthIndex, dateIn, monthOn, numberAnswer, dateAnswer};
 ghost use Rattle.calendar.specs.Next.{dayWithin, numbered, nextAnswer};
 
 const FIRST_YEAR: u32 = 2000;
 
 const LAST_YEAR: u32 = 2399;
-
-const LAST_DAY: u32 = 146_096;
 
 const LONGEST_STEP: u32 = 120;
 

@@ -80,7 +80,7 @@ module _ (π : Counts) (homes : List ℕ) where
           (Made (ofModel π homes) (write c k v ∷ h)) made-more v p mine);
     }
       where
-        p : WritePassed π (run π homes h) c k
+        p : WritePassed π (run π homes h) c k v
         p = write-passed π _ c k v e
 
         mine : Made (ofModel π homes) (write c k v ∷ h) (record { bearing = k; version = made π c k v (run π homes h) })

@@ -11,10 +11,11 @@ pub mod Steps
 pub mod Histories
 pub mod Room
 pub mod Unique
-pub mod Limits
 pub mod Causal
 pub mod Answering
 pub mod Demand2
+pub mod Dated
+pub mod Limits
 pub mod Refreshes
 pub mod Ticks
 pub mod Rounds

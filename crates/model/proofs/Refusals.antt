@@ -14,7 +14,7 @@ use Rattle.loops.proofs.BoolLaws.{and-left, and-right, both-ways}
 use Rattle.loops.proofs.LoopLaws.{every-at}
 use Rattle.model.specs.Parts.{Counts, Message, State, mostBearings, fresh, end}
 use Rattle.model.specs.Rules.{roomy}
-use Rattle.paper.specs.Calls.{read, write, tick, take, refresh, first}
+use Rattle.paper.specs.Calls.{lastDay, read, write, tick, take, refresh, first}
 use Rattle.model.specs.Calls.{none, within, setup, shelfOf, refusal}
 use Rattle.model.proofs.Places.{Other}
 
@@ -54,7 +54,8 @@ module _ (π : Counts) where
   no-wait σ c k v ready e =
       let a = first-skips (leb (π .crews) c) 5 8 _ e (λ n. omega arith) in
       let b = first-skips (leb (π .bearings) k) 4 8 _ (a .1) (λ n. omega arith) in
-      let w = first-failed (ltb (σ .shelf (σ .home c) (shelfOf π k) .clock) (σ .crew c (σ .home c))) 8 8 _ (b .1) (le-ltb _ _ (ready (leb-false _ _ (a .0)))) in
+      let y = first-skips (ltb lastDay v) 16 8 _ (b .1) (λ n. omega arith) in
+      let w = first-failed (ltb (σ .shelf (σ .home c) (shelfOf π k) .clock) (σ .crew c (σ .home c))) 8 8 _ (y .1) (le-ltb _ _ (ready (leb-false _ _ (a .0)))) in
       let t = first-skips (leb end (σ .shelf (σ .home c) (shelfOf π k) .clock)) 10 8 _ w (λ n. omega arith) in
       let r = first-skips (not (roomy π (σ .home c) (shelfOf π k) σ)) 9 8 _ (t .1) (λ n. omega arith) in
       first-ends (r .1)
@@ -91,24 +92,27 @@ module _ (π : Counts) where
       let b = first-none (leb (π .bearings) k) 3 _ (a .1) in
       record { crew = leb-false (π .crews) c (a .0); bearing = leb-false (π .bearings) k (b .0) }
 
-  pub record WritePassed (σ : State) (c k : ℕ) : Type 0 where
+  pub record WritePassed (σ : State) (c k v : ℕ) : Type 0 where
     pub crew : c < π .crews
     pub bearing : k < π .bearings
+    pub dated : v ≤ lastDay
     pub ready : σ .crew c (σ .home c) ≤ σ .shelf (σ .home c) (shelfOf π k) .clock
     pub below : σ .shelf (σ .home c) (shelfOf π k) .clock < end
     pub room : roomy π (σ .home c) (shelfOf π k) σ ≡ true
 
-  pub write-passed : (σ : State) (c k v : ℕ) → refusal π σ (write c k v) ≡ 0 → WritePassed σ c k
+  pub write-passed : (σ : State) (c k v : ℕ) → refusal π σ (write c k v) ≡ 0 → WritePassed σ c k v
   unfolding refusal
   write-passed σ c k v e =
       let a = first-none (leb (π .crews) c) 4 _ e in
       let b = first-none (leb (π .bearings) k) 3 _ (a .1) in
-      let w = first-none (ltb (σ .shelf (σ .home c) (shelfOf π k) .clock) (σ .crew c (σ .home c))) 7 _ (b .1) in
+      let y = first-none (ltb lastDay v) 15 _ (b .1) in
+      let w = first-none (ltb (σ .shelf (σ .home c) (shelfOf π k) .clock) (σ .crew c (σ .home c))) 7 _ (y .1) in
       let t = first-none (leb end (σ .shelf (σ .home c) (shelfOf π k) .clock)) 9 _ (w .1) in
       let r = first-none (not (roomy π (σ .home c) (shelfOf π k) σ)) 8 _ (t .1) in
       record {
         crew = leb-false (π .crews) c (a .0);
         bearing = leb-false (π .bearings) k (b .0);
+        dated = ltb-false _ _ (y .0);
         ready = ltb-false _ _ (w .0);
         below = leb-false _ _ (t .0);
         room = not-none _ (r .0);

@@ -83,7 +83,7 @@ module _ (π : Counts) (M : Write → Type 0) (σ : State) (z : Sound π M σ) w
           (merged-rests π mid-rests read-rests)
           (λ x. omega arith))
 
-    module _ (N : Write → Type 0) (more : (w : Write) → M w → N w) (value : ℕ) (p : WritePassed π σ c k) where
+    module _ (N : Write → Type 0) (more : (w : Write) → M w → N w) (value : ℕ) (p : WritePassed π σ c k value) where
       -- the version made, its write, and the states in between
       abbrev v : Version
       v = made π c k value σ

@@ -16,7 +16,7 @@ use Rattle.model.specs.Calls.{shelfOf}
 use Rattle.model.specs.System.{System, after}
 use Rattle.model.specs.Follows.{Alike, Follows}
 use Rattle.model.specs.Demands as demands
-use Rattle.model.specs.Demands.{AtLeast, Silent, Wrote, Got, MadeAt, now, earlier, Made, Past, wrote, got, kept, under}
+use Rattle.model.specs.Demands.{AtLeast, Dated, Silent, Wrote, Got, MadeAt, now, earlier, Made, Past, wrote, got, kept, under}
 use Rattle.model.specs.Demands.{NotInvented, WriteAnswers, Demand2, Round, Rounds, lowestClock, Demand3, Limits, Demands}
 
 -- a round of one system is a round of another that has the same numbers
@@ -190,6 +190,8 @@ module _ {π : Counts} {S T : System} (f : Follows π S T) where
     beats = λ l h d s q c w hd hs e t o k.
         subst (λ n. n < stamp (w .version)) (sym (alike (tick d s ∷ h) .clock d s hd hs))
         (L .beats l h d s q c w hd hs (sym (alike h .number _) ∙ e) (wrote-to t) o k);
+    dated = λ h w m. L .dated h w (made-to m);
+    stores-dated = λ h d k hd hk. subst Dated (sym (alike h .store d k hd hk)) (L .stores-dated h d k hd hk);
   }
 
   pub demands-from : 0 < π .shelves → Demands π T → Demands π S

@@ -14,7 +14,7 @@ use Rattle.paper.specs.Calls.{tick, take}
 use Rattle.model.specs.Calls.{answers, step}
 use Rattle.model.specs.System.{after}
 use Rattle.model.specs.Cases.{counts, homes, listingToB, listing, listingAnswers, stableAfter, caseD, caseDAnswers}
-use Rattle.model.specs.Cases.{caseE, caseEAnswers, caseF, caseFAnswers, manyTicks, manyDone, caseG, caseGAnswers, clockAfter, CasesHold}
+use Rattle.model.specs.Cases.{caseE, caseEAnswers, caseF, caseFAnswers, manyTicks, manyDone, caseG, caseGAnswers, clockAfter, caseDates, caseDatesAnswers, CasesHold}
 use Rattle.model.proofs.Lawful.{dominates, lawful, lawful-agrees, like, knowing, knowing-agrees}
 use Rattle.model.proofs.Computed.{answersNow, endsNow, answers-computed, ends-computed}
 
@@ -65,6 +65,10 @@ pub caseG-again : clockAfter (tick 0 0 ∷ (take 1 0 0 ∷ manyTicks 17)) ≡ 17
 unfolding answersNow counts homes manyTicks clockAfter after step
 caseG-again = refl
 
+pub caseDates-holds : answers counts (fresh homes) caseDates ≡ caseDatesAnswers
+unfolding answersNow dominates lawful counts homes caseDates caseDatesAnswers
+caseDates-holds = answers-computed counts lawful lawful-agrees (fresh homes) caseDates ∙ refl
+
 pub cases-hold : CasesHold
 cases-hold = record {
   listed = listing-holds;
@@ -76,4 +80,5 @@ cases-hold = record {
   g = caseG-holds;
   g-full = caseG-full;
   g-again = caseG-again;
+  dates = caseDates-holds;
 }

@@ -5,7 +5,7 @@ use mathlib.Core.Bool.{Bool, true, false, _||_, not, _&&_}
 use mathlib.Core.List.{List, [], _∷_, _++_}
 use lib.Dec.{eqb, ltb, leb}
 use lib.ListN.{length, getD}
-use Rattle.paper.specs.Calls.{Call, read, write, tick, take, refresh, Told, read-value, read-unwritten, Answer, refused, done, reads, current, superseded, first}
+use Rattle.paper.specs.Calls.{lastDay, Call, read, write, tick, take, refresh, Told, read-value, read-unwritten, Answer, refused, done, reads, current, superseded, first}
 use Rattle.loops.specs.Loops.{every, pick}
 use Rattle.order.specs.Vector.{Vec, merged, zeros}
 use Rattle.order.specs.Order.{above}
@@ -72,10 +72,11 @@ module _ (π : Counts) where
   refusal σ (write c k value) = first
       ((leb (π .crews) c, 5)
       ∷ ((leb (π .bearings) k, 4)
+      ∷ ((ltb lastDay value, 16)
       ∷ ((ltb (σ .shelf (σ .home c) (shelfOf k) .clock) (σ .crew c (σ .home c)), 8)
       ∷ ((leb end (σ .shelf (σ .home c) (shelfOf k) .clock), 10)
       ∷ ((not (roomy π (σ .home c) (shelfOf k) σ), 9)
-      ∷ [])))))
+      ∷ []))))))
   refusal σ (tick d s) = first
       ((leb (π .depots) d, 2)
       ∷ ((leb (π .shelves) s, 3)

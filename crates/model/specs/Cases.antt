@@ -1,4 +1,4 @@
--- The worked cases that speak of the model: the listing with (a) to (c), and (d) to (g).
+-- The worked cases that speak of the model: the listing with (a) to (c), (d) to (g), and those of the request on dates.
 -- Assumes nothing.
 use Prim.Native.Nat.{ℕ, zero, suc}
 use mathlib.Core.Path.{_≡_}
@@ -108,6 +108,14 @@ caseGAnswers = manyDone 16 ++ (refused 9 ∷ (done ∷ (done ∷ [])))
 unfoldable pub clockAfter : List Call → ℕ
 clockAfter h = run counts homes h .shelf 0 0 .clock
 
+-- the request on dates, fresh: crew 0 writes bearing 0 := 146,096, the last day; 146,097 is BAD DATE. Of bearing 4, which there is none of, it is
+-- BAD KEY; of bearing 1, at whose shelf the crew would have to wait, BAD DATE, and with a date WAIT
+unfoldable pub caseDates : List Call
+caseDates = write 0 0 146096 ∷ (write 0 0 146097 ∷ (write 0 4 146097 ∷ (write 0 1 146097 ∷ (write 0 1 146096 ∷ (read 0 0 ∷ [])))))
+
+unfoldable pub caseDatesAnswers : List Answer
+caseDatesAnswers = current 1 ∷ (refused 16 ∷ (refused 4 ∷ (refused 16 ∷ (refused 8 ∷ (reads (read-value 146096 (pair 1 0)) ∷ [])))))
+
 -- what these cases come to
 pub record CasesHold : Type 0 where
   -- the listing's answers with those of (a) to (c), one list with one claim
@@ -120,3 +128,4 @@ pub record CasesHold : Type 0 where
   pub g : answers counts (fresh homes) caseG ≡ caseGAnswers
   pub g-full : clockAfter (manyTicks 17) ≡ 16
   pub g-again : clockAfter (tick 0 0 ∷ (take 1 0 0 ∷ manyTicks 17)) ≡ 17
+  pub dates : answers counts (fresh homes) caseDates ≡ caseDatesAnswers

@@ -9,7 +9,7 @@ use lib.ListN.{length}
 use Rattle.order.specs.Vector.{covered, zeros}
 use Rattle.order.specs.Order.{above}
 use Rattle.model.specs.Parts.{Counts, Version, Write, rank, stamp, unwritten, lowest, end, room}
-use Rattle.paper.specs.Calls.{Call, read, write, tick, take, refresh, reads, current, superseded, numberIn}
+use Rattle.paper.specs.Calls.{lastDay, Call, read, write, tick, take, refresh, reads, current, superseded, numberIn}
 use Rattle.model.specs.Calls.{told, shelfOf}
 use Rattle.model.specs.System.{System, after}
 
@@ -41,6 +41,10 @@ Each kind l = (q : Call) → Among q l → kind q
 -- with n depots, the version a is b or a greater one
 abbrev pub AtLeast : ℕ → Version → Version → Type 0
 AtLeast n a b = (a ≡ b) ⊎ (above n (rank a) (rank b) ≡ true)
+
+-- the version v is unwritten, or its value is a day of the calendar
+abbrev pub Dated : Version → Type 0
+Dated v = (v ≡ unwritten) ⊎ (v .value ≤ lastDay)
 
 -- ---- writes, and the past of a crew
 
@@ -207,6 +211,9 @@ module _ (π : Counts) (S : System) where
     -- nor do a heartbeat, whose stamp is the clock after its tick, and a later write of its shelf: the write's is above it
     pub beats : (l h : List Call) (d s : ℕ) (q : Call) (c : ℕ) (w : Write) → d < π .depots → s < π .shelves → Done S h (tick d s)
         → Wrote S (l ++ (tick d s ∷ h)) q c w → w .version .origin ≡ d → shelfOf π (w .bearing) ≡ s → S .clock (after S (tick d s ∷ h)) d s < stamp (w .version)
+    -- every value written is a day of the calendar; so a shelf stores unwritten, or a version whose value is one
+    pub dated : (h : List Call) (w : Write) → Made S h w → w .version .value ≤ lastDay
+    pub stores-dated : (h : List Call) (d k : ℕ) → d < π .depots → k < π .bearings → Dated (S .store (after S h) d k)
 
   pub record Demands : Type 0 where
     pub second : Demand2

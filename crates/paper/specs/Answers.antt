@@ -5,7 +5,7 @@ use mathlib.Core.Path.{_≡_}
 use mathlib.Core.List.{List, [], _∷_}
 use lib.ListN.{length, getD, take}
 use Rattle.paper.specs.declared.answer.Refusal.{Refusal}
-use Rattle.paper.specs.declared.answer.Refusal.the-variants.{BadBook, BadDepot, BadShelf, BadKey, BadCrew, SameDepot, EmptyLink, Wait, LinkFull, ClockAtEnd, BadCounts}
+use Rattle.paper.specs.declared.answer.Refusal.the-variants.{BadBook, BadDepot, BadShelf, BadKey, BadCrew, SameDepot, EmptyLink, Wait, LinkFull, ClockAtEnd, BadCounts, BadDate}
 use Rattle.paper.specs.declared.answer.Answer as answer
 use Rattle.paper.specs.declared.answer.Finding.{Finding}
 use Rattle.paper.specs.declared.answer.ReadAnswer.{ReadAnswer}
@@ -27,6 +27,7 @@ numberOf Wait = 8
 numberOf LinkFull = 9
 numberOf ClockAtEnd = 10
 numberOf BadCounts = 11
+numberOf BadDate = 16
 
 -- the answer of a setup, a tick, a take or a refresh
 unfoldable pub paper : answer.Answer → Answer

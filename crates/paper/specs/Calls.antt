@@ -7,6 +7,10 @@ use mathlib.Core.List.{List, [], _∷_}
 use lib.Dec.{eqb}
 use Rattle.loops.specs.Loops.{pick}
 
+-- a value is a day number; the last one is that of 31 December 2399, the calendar's last day
+abbrev pub lastDay : ℕ
+lastDay = 146096
+
 -- read (crew, bearing), write (crew, bearing, value), tick (depot, shelf), take (at depot, shelf, from depot), refresh (depot, shelf)
 pub data Call : Type 0 where
   read : ℕ → ℕ → Call

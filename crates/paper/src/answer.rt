@@ -13,6 +13,7 @@ pub enum Refusal {
     LinkFull,
     ClockAtEnd,
     BadCounts,
+    BadDate,
 }
 
 // The answer of a setup, a tick, a take or a refresh.

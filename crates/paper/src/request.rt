@@ -3,6 +3,9 @@ ghost use mathlib.Core.Path.{_≡_};
 ghost use lib.ListN.{getD};
 ghost use Rattle.paper.specs.Requests.{requestIn, homesIn};
 
+// The last day that a value may name, 31 December 2399: the calendar's last day.
+pub const LAST_DAY: u32 = 146_096;
+
 // The kinds of request, as the letter of a line names them.
 pub enum Event {
     Setup,

@@ -99,7 +99,7 @@ read-ready l c k B hc h =
     show-ready (countsOf l) l (B .within) (home l c) (shelfOf l k) (B .homes c hc) (shelf-in (countsOf l) (B .within) k)
     (and-right (storedFit (countsOf l) l (home l c) k) _ (and-right (crewFit (countsOf l) l c) _ h))
 
-module _ (l : List ℕ) (c k value : ℕ) (t : WriteDone l c k) where
+module _ (l : List ℕ) (c k value : ℕ) (t : WriteDone l c k value) where
   pub based : Based l
   based = base-open l (write-based l c k (t .fits))
 

@@ -11,7 +11,7 @@ use Rattle.book.specs.Layout.{end, countsOf, home, crewVector, clock, linkOf, h
 use Rattle.named.specs.Named.{baseFit, tickParts, takeParts, refreshParts, readParts, writeParts, tickFit, takeFit, refreshFit, readFit, writeFit}
 use Rattle.named.proofs.NamedLaws.{tick-named, take-named, refresh-named, read-named, write-named}
 use Rattle.links.specs.Send.{roomy}
-use Rattle.paper.specs.Calls.{first}
+use Rattle.paper.specs.Calls.{lastDay, first}
 use Rattle.register.specs.Table.{shelfOf, readNumber, refreshNumber, tickNumber, takeNumber, writeNumber}
 use Rattle.register.specs.Checks.{placeNumber, askedNumber, linkNumber}
 use Rattle.register.proofs.TableLaws.{first-stop, first-next, first-none, two-bad, three-bad}
@@ -121,25 +121,39 @@ module _ (l : List ℕ) (c k value : ℕ) where
     asked :
         writeNumber l c k value
         ≡ first
-        ((ltb (clock l (home l c) (shelfOf l k)) (crewVector l c (home l c)), 8)
+        ((ltb lastDay value, 16)
+        ∷ (ltb (clock l (home l c) (shelfOf l k)) (crewVector l c (home l c)), 8)
         ∷ (leb end (clock l (home l c) (shelfOf l k)), 10)
         ∷ (not (roomy (countsOf l .depots) (home l c) (shelfOf l k) l), 9)
         ∷ [])
     unfolding writeNumber
     asked = first-next _ _ _ (ap not f) ∙ first-next _ _ _ (lt-leb _ _ hc) ∙ first-next _ _ _ (lt-leb _ _ hk)
 
-    pub write-wait : clock l (home l c) (shelfOf l k) < crewVector l c (home l c) → writeNumber l c k value ≡ 8
-    write-wait h = asked ∙ first-stop _ _ _ (lt-ltb _ _ h)
+    pub write-date : lastDay < value → writeNumber l c k value ≡ 16
+    write-date h = asked ∙ first-stop _ _ _ (lt-ltb _ _ h)
 
-    pub write-end : crewVector l c (home l c) ≤ clock l (home l c) (shelfOf l k) → end ≤ clock l (home l c) (shelfOf l k) → writeNumber l c k value ≡ 10
-    write-end h e = asked ∙ first-next _ _ _ (le-ltb _ _ h) ∙ first-stop _ _ _ (le-leb _ _ e)
+    module _ (hv : value ≤ lastDay) where
+      dated :
+          writeNumber l c k value
+          ≡ first
+          ((ltb (clock l (home l c) (shelfOf l k)) (crewVector l c (home l c)), 8)
+          ∷ (leb end (clock l (home l c) (shelfOf l k)), 10)
+          ∷ (not (roomy (countsOf l .depots) (home l c) (shelfOf l k) l), 9)
+          ∷ [])
+      dated = asked ∙ first-next _ _ _ (le-ltb _ _ hv)
 
-    pub write-full :
-        crewVector l c (home l c) ≤ clock l (home l c) (shelfOf l k) → clock l (home l c) (shelfOf l k) < end →
-        roomy (countsOf l .depots) (home l c) (shelfOf l k) l ≡ false → writeNumber l c k value ≡ 9
-    write-full h e r = asked ∙ first-next _ _ _ (le-ltb _ _ h) ∙ first-next _ _ _ (lt-leb _ _ e) ∙ first-stop _ _ _ (not-failed r)
+      pub write-wait : clock l (home l c) (shelfOf l k) < crewVector l c (home l c) → writeNumber l c k value ≡ 8
+      write-wait h = dated ∙ first-stop _ _ _ (lt-ltb _ _ h)
 
-    pub write-good :
-        crewVector l c (home l c) ≤ clock l (home l c) (shelfOf l k) → clock l (home l c) (shelfOf l k) < end →
-        roomy (countsOf l .depots) (home l c) (shelfOf l k) l ≡ true → writeNumber l c k value ≡ 0
-    write-good h e r = asked ∙ first-next _ _ _ (le-ltb _ _ h) ∙ first-next _ _ _ (lt-leb _ _ e) ∙ first-next _ _ _ (ap not r) ∙ first-none
+      pub write-end : crewVector l c (home l c) ≤ clock l (home l c) (shelfOf l k) → end ≤ clock l (home l c) (shelfOf l k) → writeNumber l c k value ≡ 10
+      write-end h e = dated ∙ first-next _ _ _ (le-ltb _ _ h) ∙ first-stop _ _ _ (le-leb _ _ e)
+
+      pub write-full :
+          crewVector l c (home l c) ≤ clock l (home l c) (shelfOf l k) → clock l (home l c) (shelfOf l k) < end →
+          roomy (countsOf l .depots) (home l c) (shelfOf l k) l ≡ false → writeNumber l c k value ≡ 9
+      write-full h e r = dated ∙ first-next _ _ _ (le-ltb _ _ h) ∙ first-next _ _ _ (lt-leb _ _ e) ∙ first-stop _ _ _ (not-failed r)
+
+      pub write-good :
+          crewVector l c (home l c) ≤ clock l (home l c) (shelfOf l k) → clock l (home l c) (shelfOf l k) < end →
+          roomy (countsOf l .depots) (home l c) (shelfOf l k) l ≡ true → writeNumber l c k value ≡ 0
+      write-good h e r = dated ∙ first-next _ _ _ (le-ltb _ _ h) ∙ first-next _ _ _ (lt-leb _ _ e) ∙ first-next _ _ _ (ap not r) ∙ first-none

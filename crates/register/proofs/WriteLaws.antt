@@ -97,7 +97,7 @@ module _ (l : List ℕ) (c k value : ℕ) {n d s stamp : ℕ} (M : MayWrite l c 
   answer-made e p = p ∙ (λ z. written (M .stamped z) (e z))
 
   -- what is known on the way
-  pub may-done : WriteDone l c k
+  pub may-done : WriteDone l c k value
   may-done = write-done l c k value (M .passed)
 
   pub may-based : Based l

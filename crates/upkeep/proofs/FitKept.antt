@@ -50,7 +50,7 @@ refresh-asked l d s t = let b = refresh-based l d s (t .fits) in (base-open l b,
 pub read-asked : (l : List ℕ) (c k : ℕ) → ReadDone l c k → Based l × (readParts (countsOf l) l c k ≡ true)
 read-asked l c k t = let b = read-based l c k (t .fits) in (base-open l b, sym (read-named l c k b (t .crew) (t .bearing)) ∙ t .fits)
 
-pub write-asked : (l : List ℕ) (c k : ℕ) → WriteDone l c k → Based l × (writeParts (countsOf l) l c k ≡ true)
+pub write-asked : (l : List ℕ) (c k : ℕ) {value : ℕ} → WriteDone l c k value → Based l × (writeParts (countsOf l) l c k ≡ true)
 write-asked l c k t = let b = write-based l c k (t .fits) in (base-open l b, sym (write-named l c k b (t .crew) (t .bearing)) ∙ t .fits)
 
 pub show-arrivals : (n : Counts) (l : List ℕ) (d s : ℕ) → showFit n l d s ≡ true → Arrivals n l d s

@@ -82,7 +82,7 @@ made-message l c k value hk ok =
 
 -- ---- the book
 
-module _ (l : List ℕ) (c k value : ℕ) (t : WriteDone l c k) where
+module _ (l : List ℕ) (c k value : ℕ) (t : WriteDone l c k value) where
   B : Based l
   B = write-asked l c k t .0
 

@@ -45,7 +45,7 @@ use Rattle.upkeep.proofs.LocalAlike.{alike-by}
 does : (l : List ℕ) (c k value j : ℕ) → Changed l (call (write c k value)) j → WroteWord (countsOf l) l c k (home l c) (shelfOf l k) j
 does l c k value j (writing w) = w
 
-done-shows : (l : List ℕ) (c k : ℕ) → WriteDone l c k → showFit (countsOf l) l (home l c) (shelfOf l k) ≡ true
+done-shows : (l : List ℕ) (c k : ℕ) {value : ℕ} → WriteDone l c k value → showFit (countsOf l) l (home l c) (shelfOf l k) ≡ true
 unfolding writeParts
 done-shows l c k t =
     read-shows l c k
@@ -111,10 +111,11 @@ module _ (S : ℕ → Type 0) (l m : List ℕ) (c k value : ℕ) (H : (j : ℕ) 
       let f = write-based l c k (not-false _ z) in
       let hc = leb-false _ _ a in
       let hk = leb-false _ _ b in
+      first-alike 16 _ _ refl λ y.
       first-alike 8 _ _ (ap₂ ltb (sameClock f hc hk) (ownEntry f hc hk)) λ e.
       first-alike 10 _ _ (ap (leb end) (sameClock f hc hk)) λ g. first-alike 9 _ _ (ap not (room f hc hk)) λ h. refl
 
-  module _ (t : WriteDone l c k) where
+  module _ (t : WriteDone l c k value) where
     F : baseFit l ≡ true
     F = write-based l c k (t .fits)
 

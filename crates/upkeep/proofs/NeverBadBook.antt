@@ -57,7 +57,8 @@ fits-number l (call (read c k)) h = first-other _ _ (ap not h) (later-other _ 5 
 fits-number l (call (write c k value)) h =
     first-other _ _ (ap not h)
     (later-other _ 5 _ (omega arith)
-    (later-other _ 4 _ (omega arith) (later-other _ 8 _ (omega arith) (later-other _ 10 _ (omega arith) (later-other _ 9 _ (omega arith) none-other)))))
+    (later-other _ 4 _ (omega arith)
+    (later-other _ 16 _ (omega arith) (later-other _ 8 _ (omega arith) (later-other _ 10 _ (omega arith) (later-other _ 9 _ (omega arith) none-other))))))
 fits-number l (call (tick d s)) h =
     first-other _ _ (ap not h)
     (later-other _ 2 _ (omega arith) (later-other _ 3 _ (omega arith) (later-other _ 10 _ (omega arith) (later-other _ 9 _ (omega arith) none-other))))

@@ -20,6 +20,7 @@ use order::record::RECORD_WORDS;
 use order::record::is_above;
 use paper::answer::Refusal;
 use paper::answer::WriteAnswer;
+use paper::request::LAST_DAY;
 use register::check::AskCheck;
 use register::check::check_asked;
 use register::home::crew_vector;
@@ -171,6 +172,9 @@ fn write_at(book: &mut [u32], c: Crew, k: Bearing, value: u32) -> WriteAnswer
     if !write_parts_fit(book, n, c, k, d, s) {
         return WriteAnswer::Refused(Refusal::BadBook);
     }
+    if LAST_DAY < value {
+        return WriteAnswer::Refused(Refusal::BadDate);
+    }
     let clock = clock_of(book, d, s);
     if clock < book[crew_at(c) + d.index()] {
         return WriteAnswer::Refused(Refusal::Wait);
@@ -184,7 +188,7 @@ fn write_at(book: &mut [u32], c: Crew, k: Bearing, value: u32) -> WriteAnswer
     write_version(book, depots, c, k, d, s, clock + 1, value)
 }
 
-// Refuses, in this order: BAD BOOK, BAD CREW, BAD KEY, WAIT, CLOCK AT END, LINK FULL. Room is judged before raising.
+// Refuses, in this order: BAD BOOK, BAD CREW, BAD KEY, BAD DATE, WAIT, CLOCK AT END, LINK FULL. Room is judged before raising.
 pub fn write(book: &mut [u32], crew: u32, bearing: u32, value: u32) -> WriteAnswer
     ensures { λ r. ⌜ Write (now (book .entry)) crew bearing value r (now (book .exit)) ⌝ }
 {

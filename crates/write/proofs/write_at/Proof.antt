@@ -14,14 +14,14 @@ use Rattle.fit.specs.Fit.{Within}
 use Rattle.named.specs.Named.{writeParts, writeFit}
 use Rattle.named.proofs.NamedLaws.{Based, base-open, write-named}
 use Rattle.links.specs.Send.{roomy}
-use Rattle.paper.specs.declared.answer.Refusal.the-variants.{BadBook, Wait, ClockAtEnd, LinkFull}
+use Rattle.paper.specs.declared.answer.Refusal.the-variants.{BadBook, BadDate, Wait, ClockAtEnd, LinkFull}
 use Rattle.paper.specs.Answers.{numberOf, paperWrite}
 use Rattle.register.specs.Table.{shelfOf}
 use Rattle.register.specs.Checks.{MayWrite}
 use Rattle.register.proofs.CallLaws.{by-refusal, by-done, after-refused, after-done}
 use Rattle.register.proofs.FitReady.{shelf-in}
 use Rattle.register.proofs.HomeLaws.{parts-write}
-use Rattle.register.proofs.SendTable.{write-book, write-wait, write-end, write-full, write-good}
+use Rattle.register.proofs.SendTable.{write-book, write-date, write-wait, write-end, write-full, write-good}
 use borrow.Author.Needs.{needs}
 use Rattle.write.proofs.write_at.Statement.{statement}
 use Rattle.write.proofs.write_at.Tie as tie
@@ -44,25 +44,25 @@ fits c =
 -- where the write stands: the home shelf's clock, and the crew's home entry
 clock-said :
     (c : tie.After-clock-of) →
-    let args = c .before .before .before .before .before .before .before .before .before .before .before .args in
+    let args = c .before .before .before .before .before .before .before .before .before .before .before .before .args in
     let book = now (args .book) in
     c .clock-of .result ≡ clock book (home book (args .c .0)) (shelfOf book (args .k .0))
 clock-said c =
-    let counts = c .before .before .before .before .before .before .before .before in
-    let args = c .before .before .before .before .before .before .before .before .before .before .before .args in
+    let counts = c .before .before .before .before .before .before .before .before .before in
+    let args = c .before .before .before .before .before .before .before .before .before .before .before .before .args in
     let book = now (args .book) in
     c .clock-of .ensures
-    ∙ (λ z. clock book (c .before .before .before .before .before .before .home-depot .ensures z) (c .before .before .before .before .before .shelf-for .ensures z))
+    ∙ (λ z. clock book (c .before .before .before .before .before .before .before .home-depot .ensures z) (c .before .before .before .before .before .before .shelf-for .ensures z))
     ∙ ap (λ (n : Counts). clock book (home book (args .c .0)) (args .k .0 % n .shelves)) (counts .counts-of .ensures)
 
 entry-said :
     (c : tie.After-index) →
-    let args = c .before .before .before .before .before .before .before .before .before .before .before .before .before .args in
+    let args = c .before .before .before .before .before .before .before .before .before .before .before .before .before .before .args in
     let book = now (args .book) in
     getD book (c .before .crew-at .result + c .index .result) 0 ≡ crewVector book (args .c .0) (home book (args .c .0))
 entry-said c =
-    let book = now (c .before .before .before .before .before .before .before .before .before .before .before .before .before .args .book) in
-    let own = c .index .ensures ∙ c .before .before .before .before .before .before .before .before .home-depot .ensures in
+    let book = now (c .before .before .before .before .before .before .before .before .before .before .before .before .before .before .args .book) in
+    let own = c .index .ensures ∙ c .before .before .before .before .before .before .before .before .before .home-depot .ensures in
     λ z. getD book (c .before .crew-at .ensures z + own z) 0
 
 -- the numbers that name the parts
@@ -85,29 +85,29 @@ small c =
 
 -- what each test that was passed says
 told-no-wait :
-    (c : tie.Else2) →
-    let args = c .before .before .before .before .before .before .before .before .before .before .before .before .before .before .before .args in
+    (c : tie.Else3) →
+    let args = c .before .before .before .before .before .before .before .before .before .before .before .before .before .before .before .before .args in
     let book = now (args .book) in
     crewVector book (args .c .0) (home book (args .c .0)) ≤ clock book (home book (args .c .0)) (shelfOf book (args .k .0))
 told-no-wait c =
     let e = entry-said (c .before .before) in
     let t = clock-said (c .before .before .before .before) in
-    subst₂ (λ (x y : ℕ). x ≤ y) e t (c .if2 .left)
+    subst₂ (λ (x y : ℕ). x ≤ y) e t (c .if3 .left)
 
 told-early :
-    (c : tie.Else3) →
-    let args = c .before .before .before .before .before .before .before .before .before .before .before .before .before .before .before .before .args in
+    (c : tie.Else4) →
+    let args = c .before .before .before .before .before .before .before .before .before .before .before .before .before .before .before .before .before .args in
     let book = now (args .book) in
     clock book (home book (args .c .0)) (shelfOf book (args .k .0)) < end
-told-early c = subst (λ (x : ℕ). x < end) (clock-said (c .before .before .before .before .before)) (c .if3 .left)
+told-early c = subst (λ (x : ℕ). x < end) (clock-said (c .before .before .before .before .before)) (c .if4 .left)
 
 roomy-said :
     (c : tie.After-is-roomy) →
-    let args = c .before .before .before .before .before .before .before .before .before .before .before .before .before .before .before .before .before .before .args in
+    let args = c .before .before .before .before .before .before .before .before .before .before .before .before .before .before .before .before .before .before .before .args in
     let book = now (args .book) in
     c .is-roomy .result ≡ roomy (countsOf book .depots) (home book (args .c .0)) (shelfOf book (args .k .0)) book
 roomy-said c =
-    let shelf = c .before .before .before .before .before .before .before .before .before .before .before .before in
+    let shelf = c .before .before .before .before .before .before .before .before .before .before .before .before .before in
     let counts = shelf .before .before .before in
     let args = counts .before .before .before .args in
     let book = now (args .book) in
@@ -116,20 +116,20 @@ roomy-said c =
     ∙ ap (λ (n : Counts). roomy (n .depots) (home book (args .c .0)) (args .k .0 % n .shelves) book) (counts .counts-of .ensures)
 
 may :
-    (c : tie.Else4) →
-    let shelf = c .before .before .before .before .before .before .before .before .before .before .before .before .before in
+    (c : tie.Else5) →
+    let shelf = c .before .before .before .before .before .before .before .before .before .before .before .before .before .before in
     let counts = shelf .before .before .before in
     let args = counts .before .before .before .args in
     MayWrite (now (args .book)) (args .c .0) (args .k .0) (args .value) (counts .counts-of .result .depots) (shelf .before .home-depot .result .0) (shelf .shelf-for .result .0)
     (c .before .before .before .before .before .before .before .before .clock-of .result + 1)
 may c =
     let at3 = c .before .before .before in
-    let shelf = c .before .before .before .before .before .before .before .before .before .before .before .before .before in
+    let shelf = c .before .before .before .before .before .before .before .before .before .before .before .before .before .before in
     let counts = shelf .before .before .before in
     let start = counts .before .before .before in
     let args = start .args in
     record {
-      passed = write-good _ _ _ _ (fits (c .before .before .before .before .before .before .before .before .before .before)) (start .pre .1) (start .pre .2) (told-no-wait (at3 .before)) (told-early at3) (test-passed (roomy-said (c .before)) (c .if4 .left));
+      passed = write-good _ _ _ _ (fits (c .before .before .before .before .before .before .before .before .before .before .before)) (start .pre .1) (start .pre .2) (c .before .before .before .before .before .before .before .before .before .before .if2 .left) (told-no-wait (at3 .before)) (told-early at3) (test-passed (roomy-said (c .before)) (c .if5 .left));
       depots = ap (λ (n : Counts). n .depots) (counts .counts-of .ensures);
       depot = shelf .before .home-depot .ensures;
       shelf = shelf .shelf-for .ensures ∙ ap (λ (n : Counts). args .k .0 % n .shelves) (counts .counts-of .ensures);
@@ -165,63 +165,70 @@ returns c =
     let e = write-book _ _ _ _ (start .pre .0) (start .pre .1) (start .pre .2) (test-failed (parts-said (c .before)) (c .if1 .taken)) in
     record { answer = by-refusal BadBook _ e; book = after-refused BadBook _ _ e }
 
-clock-of-requires : tie.Need-clock-of-requires
-clock-of-requires c κs = let h = small (c .before .before .before .before) in (base (c .before .before .before .before .before .before .before .before .before .before) .full, h .0, h .1)
-
-crew-at-requires : tie.Need-crew-at-requires
-crew-at-requires c κs = small (c .before .before .before .before .before) .2
-
-add-if2 : tie.Need-add-if2
-add-if2 c = let h = small (c .before .before .before .before .before .before .before) in omega (arith, h .0, h .2, c .index .ensures, c .before .crew-at .ensures)
-
-mul-if2 : tie.Need-mul-if2
-mul-if2 c = let h = small (c .before .before .before .before .before .before .before) in omega (arith, h .0, h .2, c .index .ensures, c .before .crew-at .ensures)
-
-slice-read-if2 : tie.Need-slice-read-if2
-slice-read-if2 c =
-    let h = small (c .before .before .before .before .before .before .before .before) in
-    let full = base (c .before .before .before .before .before .before .before .before .before .before .before .before .before .before) .full in
-    omega (arith, h .0, h .2, full, c .before .index .ensures, c .before .before .crew-at .ensures)
-
 returns-2 : tie.Need-returns-2
 unfolding numberOf paperWrite
 returns-2 c =
-    let at = c .before .before in
-    let start = at .before .before .before .before .before .before .before .before .before .before .before .before .before in
-    let e = write-wait _ _ _ _ (fits (at .before .before .before .before)) (start .pre .1) (start .pre .2) (subst₂ (λ (x y : ℕ). x < y) (clock-said (at .before .before)) (entry-said at) (c .if2 .taken)) in
-    record { answer = by-refusal Wait _ e; book = after-refused Wait _ _ e }
+    let start = c .before .before .before .before .before .before .before .before .before .before in
+    let e = write-date _ _ _ _ (fits (c .before)) (start .pre .1) (start .pre .2) (c .if2 .taken) in
+    record { answer = by-refusal BadDate _ e; book = after-refused BadDate _ _ e }
+
+clock-of-requires : tie.Need-clock-of-requires
+clock-of-requires c κs = let h = small (c .before .before .before .before .before) in (base (c .before .before .before .before .before .before .before .before .before .before .before) .full, h .0, h .1)
+
+crew-at-requires : tie.Need-crew-at-requires
+crew-at-requires c κs = small (c .before .before .before .before .before .before) .2
+
+add-if3 : tie.Need-add-if3
+add-if3 c = let h = small (c .before .before .before .before .before .before .before .before) in omega (arith, h .0, h .2, c .index .ensures, c .before .crew-at .ensures)
+
+mul-if3 : tie.Need-mul-if3
+mul-if3 c = let h = small (c .before .before .before .before .before .before .before .before) in omega (arith, h .0, h .2, c .index .ensures, c .before .crew-at .ensures)
+
+slice-read-if3 : tie.Need-slice-read-if3
+slice-read-if3 c =
+    let h = small (c .before .before .before .before .before .before .before .before .before) in
+    let full = base (c .before .before .before .before .before .before .before .before .before .before .before .before .before .before .before) .full in
+    omega (arith, h .0, h .2, full, c .before .index .ensures, c .before .before .crew-at .ensures)
 
 returns-3 : tie.Need-returns-3
 unfolding numberOf paperWrite
 returns-3 c =
-    let at2 = c .before in
-    let at = at2 .before .before in
-    let start = at .before .before .before .before .before .before .before .before .before .before .before .before .before in
-    let e = write-end _ _ _ _ (fits (at .before .before .before .before)) (start .pre .1) (start .pre .2) (told-no-wait at2) (subst (λ (x : ℕ). end ≤ x) (clock-said (at .before .before)) (c .if3 .taken)) in
-    record { answer = by-refusal ClockAtEnd _ e; book = after-refused ClockAtEnd _ _ e }
-
-is-roomy-requires : tie.Need-is-roomy-requires
-is-roomy-requires c κs =
-    let shelf = c .before .before .before .before .before .before .before .before .before .before .before in
-    let h = small shelf in
-    (base (shelf .before .before .before .before .before .before) .full, h .3, h .0, h .1)
+    let at = c .before .before in
+    let start = at .before .before .before .before .before .before .before .before .before .before .before .before .before .before in
+    let e = write-wait _ _ _ _ (fits (at .before .before .before .before .before)) (start .pre .1) (start .pre .2) (at .before .before .before .before .if2 .left) (subst₂ (λ (x y : ℕ). x < y) (clock-said (at .before .before)) (entry-said at) (c .if3 .taken)) in
+    record { answer = by-refusal Wait _ e; book = after-refused Wait _ _ e }
 
 returns-4 : tie.Need-returns-4
 unfolding numberOf paperWrite
 returns-4 c =
+    let at2 = c .before in
+    let at = at2 .before .before in
+    let start = at .before .before .before .before .before .before .before .before .before .before .before .before .before .before in
+    let e = write-end _ _ _ _ (fits (at .before .before .before .before .before)) (start .pre .1) (start .pre .2) (at .before .before .before .before .if2 .left) (told-no-wait at2) (subst (λ (x : ℕ). end ≤ x) (clock-said (at .before .before)) (c .if4 .taken)) in
+    record { answer = by-refusal ClockAtEnd _ e; book = after-refused ClockAtEnd _ _ e }
+
+is-roomy-requires : tie.Need-is-roomy-requires
+is-roomy-requires c κs =
+    let shelf = c .before .before .before .before .before .before .before .before .before .before .before .before in
+    let h = small shelf in
+    (base (shelf .before .before .before .before .before .before) .full, h .3, h .0, h .1)
+
+returns-5 : tie.Need-returns-5
+unfolding numberOf paperWrite
+returns-5 c =
     let at3 = c .before .before .before in
-    let start = at3 .before .before .before .before .before .before .before .before .before .before .before .before .before .before .before .before in
-    let e = write-full _ _ _ _ (fits (at3 .before .before .before .before .before .before .before)) (start .pre .1) (start .pre .2) (told-no-wait (at3 .before)) (told-early at3) (test-failed (roomy-said (c .before)) (c .if4 .taken)) in
+    let start = at3 .before .before .before .before .before .before .before .before .before .before .before .before .before .before .before .before .before in
+    let e = write-full _ _ _ _ (fits (at3 .before .before .before .before .before .before .before .before)) (start .pre .1) (start .pre .2) (at3 .before .before .before .before .before .before .before .if2 .left) (told-no-wait (at3 .before)) (told-early at3) (test-failed (roomy-said (c .before)) (c .if5 .taken)) in
     record { answer = by-refusal LinkFull _ e; book = after-refused LinkFull _ _ e }
 
 add-write-version : tie.Need-add-write-version
-add-write-version c = let t = c .before .before .before .before .if3 .left in omega (arith, t)
+add-write-version c = let t = c .before .before .before .before .if4 .left in omega (arith, t)
 
 write-version-requires : tie.Need-write-version-requires
 write-version-requires c κs = may (c .before)
 
-returns-5 : tie.Need-returns-5
-returns-5 c =
+returns-6 : tie.Need-returns-6
+returns-6 c =
     let call = c .before .before .write-version in
     let e = may (c .before .before .before .before) .passed in
     record { answer = call .ensures .0 ∙ by-done e; book = call .ensures .1 ∙ after-done _ _ e }
@@ -236,20 +243,22 @@ write-at-spec =
     write-parts-fit-requires
     (λ c. search needs)
     returns
+    (λ c. search needs)
+    returns-2
     clock-of-requires
     crew-at-requires
     (λ c κs. search needs)
-    add-if2
-    mul-if2
-    slice-read-if2
-    (λ c. search needs)
-    returns-2
+    add-if3
+    mul-if3
+    slice-read-if3
     (λ c. search needs)
     returns-3
-    is-roomy-requires
     (λ c. search needs)
     returns-4
+    is-roomy-requires
+    (λ c. search needs)
+    returns-5
     add-write-version
     write-version-requires
     (λ c. search needs)
-    returns-5)
+    returns-6)
