@@ -54,7 +54,7 @@ module _ (π : Counts) where
   no-wait σ c k v ready e =
       let a = first-skips (leb (π .crews) c) 5 8 _ e (λ n. omega arith) in
       let b = first-skips (leb (π .bearings) k) 4 8 _ (a .1) (λ n. omega arith) in
-      let y = first-skips (ltb lastDay v) 16 8 _ (b .1) (λ n. omega arith) in
+      let y = first-skips _ 16 8 _ (b .1) (λ n. omega arith) in
       let w = first-failed (ltb (σ .shelf (σ .home c) (shelfOf π k) .clock) (σ .crew c (σ .home c))) 8 8 _ (y .1) (le-ltb _ _ (ready (leb-false _ _ (a .0)))) in
       let t = first-skips (leb end (σ .shelf (σ .home c) (shelfOf π k) .clock)) 10 8 _ w (λ n. omega arith) in
       let r = first-skips (not (roomy π (σ .home c) (shelfOf π k) σ)) 9 8 _ (t .1) (λ n. omega arith) in
@@ -105,7 +105,7 @@ module _ (π : Counts) where
   write-passed σ c k v e =
       let a = first-none (leb (π .crews) c) 4 _ e in
       let b = first-none (leb (π .bearings) k) 3 _ (a .1) in
-      let y = first-none (ltb lastDay v) 15 _ (b .1) in
+      let y = first-none _ 15 _ (b .1) in
       let w = first-none (ltb (σ .shelf (σ .home c) (shelfOf π k) .clock) (σ .crew c (σ .home c))) 7 _ (y .1) in
       let t = first-none (leb end (σ .shelf (σ .home c) (shelfOf π k) .clock)) 9 _ (w .1) in
       let r = first-none (not (roomy π (σ .home c) (shelfOf π k) σ)) 8 _ (t .1) in

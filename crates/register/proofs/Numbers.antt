@@ -7,7 +7,7 @@ use mathlib.Core.List.{List, _∷_}
 use mathlib.Core.Bool.{Bool, true, false, not, _||_}
 use lib.Dec.{eqb, ltb, leb}
 use lib.ListN.{length, getD}
-use borrow.Author.Tests.{leb-false, ltb-false, ltb-true, eqb-true, eqb-false, not-false}
+use borrow.Author.Tests.{leb-true, leb-false, ltb-false, ltb-true, eqb-true, eqb-false, not-false}
 use Rattle.loops.specs.Loops.{pick, every}
 use Rattle.loops.proofs.BoolLaws.{both-ways}
 use Rattle.loops.proofs.LoopLaws.{every-at}
@@ -117,6 +117,10 @@ read-done l c k h =
     let e = first-passed (leb (countsOf l .bearings) k) 4 _ (omega arith) (b .1) in
     record { fits = not-false _ (a .0); crew = leb-false _ _ (b .0); bearing = leb-false _ _ (e .0) }
 
+-- a value that is not past a day is not past the last
+not-past : (day value : ℕ) → ltb day value ≡ false → leb day lastDay ≡ true → value ≤ lastDay
+not-past day value h k = let a = ltb-false day value h in let b = leb-true day lastDay k in omega (arith, a, b)
+
 pub record WriteDone (l : List ℕ) (c k value : ℕ) : Type 0 where
   pub fits : writeFit l c k ≡ true
   pub crew : c < countsOf l .crews
@@ -132,7 +136,7 @@ write-done l c k value h =
     let a = first-passed (not (writeFit l c k)) 1 _ (omega arith) h in
     let b = first-passed (leb (countsOf l .crews) c) 5 _ (omega arith) (a .1) in
     let e = first-passed (leb (countsOf l .bearings) k) 4 _ (omega arith) (b .1) in
-    let y = first-passed (ltb lastDay value) 16 _ (omega arith) (e .1) in
+    let y = first-passed _ 16 _ (omega arith) (e .1) in
     let f = first-passed (ltb (clock l (home l c) (shelfOf l k)) (crewVector l c (home l c))) 8 _ (omega arith) (y .1) in
     let g = first-passed (leb end (clock l (home l c) (shelfOf l k))) 10 _ (omega arith) (f .1) in
     let i = first-passed (not (roomy (countsOf l .depots) (home l c) (shelfOf l k) l)) 9 _ (omega arith) (g .1) in
@@ -140,7 +144,7 @@ write-done l c k value h =
       fits = not-false _ (a .0);
       crew = leb-false _ _ (b .0);
       bearing = leb-false _ _ (e .0);
-      dated = ltb-false _ _ (y .0);
+      dated = not-past _ _ (y .0) refl;
       waited = ltb-false _ _ (f .0);
       clocked = leb-false _ _ (g .0);
       room = not-false _ (i .0);

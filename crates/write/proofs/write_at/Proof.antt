@@ -15,6 +15,7 @@ use Rattle.named.specs.Named.{writeParts, writeFit}
 use Rattle.named.proofs.NamedLaws.{Based, base-open, write-named}
 use Rattle.links.specs.Send.{roomy}
 use Rattle.paper.specs.declared.answer.Refusal.the-variants.{BadBook, BadDate, Wait, ClockAtEnd, LinkFull}
+use Rattle.paper.specs.Calls.{lastDay}
 use Rattle.paper.specs.Answers.{numberOf, paperWrite}
 use Rattle.register.specs.Table.{shelfOf}
 use Rattle.register.specs.Checks.{MayWrite}
@@ -40,6 +41,9 @@ fits : (c : tie.Else1) → let args = c .before .before .before .before .before 
 fits c =
     let start = c .before .before .before .before .before .before .before .before .before in
     write-named _ _ _ (start .pre .0) (start .pre .1) (start .pre .2) ∙ test-passed (parts-said (c .before)) (c .if1 .left)
+
+dated : (c : tie.Else2) → c .before .before .before .before .before .before .before .before .before .before .args .value ≤ lastDay
+dated c = omega (arith, c .if2 .left)
 
 -- where the write stands: the home shelf's clock, and the crew's home entry
 clock-said :
@@ -129,7 +133,7 @@ may c =
     let start = counts .before .before .before in
     let args = start .args in
     record {
-      passed = write-good _ _ _ _ (fits (c .before .before .before .before .before .before .before .before .before .before .before)) (start .pre .1) (start .pre .2) (c .before .before .before .before .before .before .before .before .before .before .if2 .left) (told-no-wait (at3 .before)) (told-early at3) (test-passed (roomy-said (c .before)) (c .if5 .left));
+      passed = write-good _ _ _ _ (fits (c .before .before .before .before .before .before .before .before .before .before .before)) (start .pre .1) (start .pre .2) (dated (c .before .before .before .before .before .before .before .before .before .before)) (told-no-wait (at3 .before)) (told-early at3) (test-passed (roomy-said (c .before)) (c .if5 .left));
       depots = ap (λ (n : Counts). n .depots) (counts .counts-of .ensures);
       depot = shelf .before .home-depot .ensures;
       shelf = shelf .shelf-for .ensures ∙ ap (λ (n : Counts). args .k .0 % n .shelves) (counts .counts-of .ensures);
@@ -195,7 +199,7 @@ unfolding numberOf paperWrite
 returns-3 c =
     let at = c .before .before in
     let start = at .before .before .before .before .before .before .before .before .before .before .before .before .before .before in
-    let e = write-wait _ _ _ _ (fits (at .before .before .before .before .before)) (start .pre .1) (start .pre .2) (at .before .before .before .before .if2 .left) (subst₂ (λ (x y : ℕ). x < y) (clock-said (at .before .before)) (entry-said at) (c .if3 .taken)) in
+    let e = write-wait _ _ _ _ (fits (at .before .before .before .before .before)) (start .pre .1) (start .pre .2) (dated (at .before .before .before .before)) (subst₂ (λ (x y : ℕ). x < y) (clock-said (at .before .before)) (entry-said at) (c .if3 .taken)) in
     record { answer = by-refusal Wait _ e; book = after-refused Wait _ _ e }
 
 returns-4 : tie.Need-returns-4
@@ -204,7 +208,7 @@ returns-4 c =
     let at2 = c .before in
     let at = at2 .before .before in
     let start = at .before .before .before .before .before .before .before .before .before .before .before .before .before .before in
-    let e = write-end _ _ _ _ (fits (at .before .before .before .before .before)) (start .pre .1) (start .pre .2) (at .before .before .before .before .if2 .left) (told-no-wait at2) (subst (λ (x : ℕ). end ≤ x) (clock-said (at .before .before)) (c .if4 .taken)) in
+    let e = write-end _ _ _ _ (fits (at .before .before .before .before .before)) (start .pre .1) (start .pre .2) (dated (at .before .before .before .before)) (told-no-wait at2) (subst (λ (x : ℕ). end ≤ x) (clock-said (at .before .before)) (c .if4 .taken)) in
     record { answer = by-refusal ClockAtEnd _ e; book = after-refused ClockAtEnd _ _ e }
 
 is-roomy-requires : tie.Need-is-roomy-requires
@@ -218,7 +222,7 @@ unfolding numberOf paperWrite
 returns-5 c =
     let at3 = c .before .before .before in
     let start = at3 .before .before .before .before .before .before .before .before .before .before .before .before .before .before .before .before .before in
-    let e = write-full _ _ _ _ (fits (at3 .before .before .before .before .before .before .before .before)) (start .pre .1) (start .pre .2) (at3 .before .before .before .before .before .before .before .if2 .left) (told-no-wait (at3 .before)) (told-early at3) (test-failed (roomy-said (c .before)) (c .if5 .taken)) in
+    let e = write-full _ _ _ _ (fits (at3 .before .before .before .before .before .before .before .before)) (start .pre .1) (start .pre .2) (dated (at3 .before .before .before .before .before .before .before)) (told-no-wait (at3 .before)) (told-early at3) (test-failed (roomy-said (c .before)) (c .if5 .taken)) in
     record { answer = by-refusal LinkFull _ e; book = after-refused LinkFull _ _ e }
 
 add-write-version : tie.Need-add-write-version
