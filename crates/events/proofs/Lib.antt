@@ -1,3 +1,1 @@
 pub mod SayLaws
-pub mod StreamLaws
-pub mod Theorems

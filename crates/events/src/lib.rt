@@ -1,3 +1,2 @@
-// The desk's events: one line to one answer, and a whole input to its answers.
+// The desk's events: one line to one answer.
 pub mod answer;
-pub mod stream;

@@ -1,0 +1,133 @@
+-- The desk on a whole input, and how it goes on byte by byte. p is the line so far.
+-- Assumes nothing.
+use Prim.Native.Nat.{ℕ, _≤_, _<_}
+use mathlib.Core.Path.{_≡_}
+use mathlib.Core.List.{List, [], _∷_, _++_}
+use lib.Dec.{eqb, ltb}
+use lib.ListN.{length, replicate, take, getD}
+use Rattle.loops.specs.Loops.{pick}
+use Rattle.book.specs.Layout.{bookWords}
+use Rattle.events.specs.Answering.{lineFeed, answerTo, bookAfter}
+
+-- ---- what is promised of a whole input
+
+-- the lines of a text whose first line begins with p; a last line without its line feed counts if not empty
+unfoldable pub linesFrom : List ℕ → List ℕ → List (List ℕ)
+linesFrom p [] = pick (eqb (length p) 0) [] (p ∷ [])
+linesFrom p (b ∷ t) = pick (eqb b lineFeed) (p ∷ linesFrom [] t) (linesFrom (p ++ (b ∷ [])) t)
+
+unfoldable pub linesOf : List ℕ → List (List ℕ)
+linesOf t = linesFrom [] t
+
+-- one answer for each line, each to the book that the line before left
+unfoldable pub answersTo : List ℕ → List (List ℕ) → List ℕ
+answersTo l [] = []
+answersTo l (s ∷ ss) = answerTo l s ++ answersTo (bookAfter l s) ss
+
+unfoldable pub bookAfterAll : List ℕ → List (List ℕ) → List ℕ
+bookAfterAll l [] = l
+bookAfterAll l (s ∷ ss) = bookAfterAll (bookAfter l s) ss
+
+-- the book starts as zeros
+abbrev pub zeroBook : List ℕ
+zeroBook = replicate bookWords 0
+
+-- the whole output for a whole input
+unfoldable pub output : List ℕ → List ℕ
+output t = answersTo zeroBook (linesOf t)
+
+-- ---- byte by byte
+
+-- of a long line 121 bytes are kept: enough to refuse it
+abbrev pub keptBytes : ℕ
+keptBytes = 121
+
+-- the line so far after the byte b
+unfoldable pub lineAt : List ℕ → ℕ → List ℕ
+lineAt p b = pick (eqb b lineFeed) [] (pick (ltb (length p) keptBytes) (p ++ (b ∷ [])) p)
+
+-- the book after it
+unfoldable pub bookAt : List ℕ → List ℕ → ℕ → List ℕ
+bookAt l p b = pick (eqb b lineFeed) (bookAfter l p) l
+
+-- and what is said to it
+unfoldable pub saysAt : List ℕ → List ℕ → ℕ → List ℕ
+saysAt l p b = pick (eqb b lineFeed) (answerTo l p) []
+
+-- the same for all the bytes of a text
+unfoldable pub lineThrough : List ℕ → List ℕ → List ℕ
+lineThrough p [] = p
+lineThrough p (b ∷ t) = lineThrough (lineAt p b) t
+
+unfoldable pub bookThrough : List ℕ → List ℕ → List ℕ → List ℕ
+bookThrough l p [] = l
+bookThrough l p (b ∷ t) = bookThrough (bookAt l p b) (lineAt p b) t
+
+unfoldable pub saysThrough : List ℕ → List ℕ → List ℕ → List ℕ
+saysThrough l p [] = []
+saysThrough l p (b ∷ t) = saysAt l p b ++ saysThrough (bookAt l p b) (lineAt p b) t
+
+-- at the end of the input a last line counts if not empty
+unfoldable pub saysLast : List ℕ → List ℕ → List ℕ
+saysLast l p = pick (eqb (length p) 0) [] (answerTo l p)
+
+unfoldable pub bookLast : List ℕ → List ℕ → List ℕ
+bookLast l p = pick (eqb (length p) 0) l (bookAfter l p)
+
+-- ---- piece by piece
+
+-- a piece of no bytes is the end of the input: after it a new line begins
+unfoldable pub linePiece : List ℕ → List ℕ → List ℕ
+linePiece p [] = []
+linePiece p (b ∷ t) = lineThrough p (b ∷ t)
+
+unfoldable pub bookPiece : List ℕ → List ℕ → List ℕ → List ℕ
+bookPiece l p [] = bookLast l p
+bookPiece l p (b ∷ t) = bookThrough l p (b ∷ t)
+
+unfoldable pub saysPiece : List ℕ → List ℕ → List ℕ → List ℕ
+saysPiece l p [] = saysLast l p
+saysPiece l p (b ∷ t) = saysThrough l p (b ∷ t)
+
+-- the same for pieces, one after the other
+unfoldable pub linePieces : List ℕ → List (List ℕ) → List ℕ
+linePieces p [] = p
+linePieces p (c ∷ cs) = linePieces (linePiece p c) cs
+
+unfoldable pub bookPieces : List ℕ → List ℕ → List (List ℕ) → List ℕ
+bookPieces l p [] = l
+bookPieces l p (c ∷ cs) = bookPieces (bookPiece l p c) (linePiece p c) cs
+
+unfoldable pub saysPieces : List ℕ → List ℕ → List (List ℕ) → List ℕ
+saysPieces l p [] = []
+saysPieces l p (c ∷ cs) = saysPiece l p c ++ saysPieces (bookPiece l p c) (linePiece p c) cs
+
+-- a whole input in pieces: each has bytes, and they join to the text
+unfoldable pub joined : List (List ℕ) → List ℕ
+joined [] = []
+joined (c ∷ cs) = c ++ joined cs
+
+unfoldable pub Pieces : List (List ℕ) → Type 0
+Pieces [] = Unit {0}
+Pieces (c ∷ cs) = (0 < length c) × Pieces cs
+
+-- ---- the buffer of the line so far
+
+-- the bytes that are kept, and after them their count
+abbrev pub lineRoom : ℕ
+lineRoom = 122
+
+-- the line that a buffer holds: as many of its bytes as its last one counts
+unfoldable pub lineIn : List ℕ → List ℕ
+lineIn m = take (getD m keptBytes 0) m
+
+pub record Holder (m : List ℕ) : Type 0 where
+  pub room : length m ≡ lineRoom
+  pub counted : getD m keptBytes 0 ≤ keptBytes
+
+-- ---- the loop of the desk: the book is the one after some pieces, from zeros, and the buffer holds the line that they leave begun
+pub record Served (l m : List ℕ) : Type 0 where
+  pub holder : Holder m
+  pub pieces : List (List ℕ)
+  pub book : l ≡ bookPieces zeroBook [] pieces
+  pub line : lineIn m ≡ linePieces [] pieces
