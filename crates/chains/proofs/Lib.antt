@@ -1,0 +1,4 @@
+pub mod SomeLaws
+pub mod BitLaws
+pub mod TableLaws
+pub mod Closing
