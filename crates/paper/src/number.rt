@@ -23,6 +23,7 @@ pub fn number_of(r: Refusal) -> u32
         Refusal::ClockAtEnd => 10,
         Refusal::BadCounts => 11,
         Refusal::BadDate => 16,
+        Refusal::BadCard => 14,
     }
 }
 
