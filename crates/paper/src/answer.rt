@@ -13,10 +13,11 @@ pub enum Refusal {
     LinkFull,
     ClockAtEnd,
     BadCounts,
+    NotHereYet,
     BadDate,
 }
 
-// The answer of a setup, a tick, a take or a refresh.
+// The answer of a setup, a tick, a take, a refresh or a move.
 pub enum Answer {
     Done,
     Refused(Refusal),
