@@ -12,8 +12,8 @@ use Rattle.loops.proofs.BoolLaws.{decided, eq-or-ne, pick-true, pick-false}
 use Rattle.model.specs.Parts.{Counts, Version, Write, copy, Shelf, State, rank, stamp, unwritten, greater, setCrew}
 use Rattle.model.specs.Rules.{keeping, storing, keep, send, settle}
 use Rattle.paper.specs.declared.answer.Payload.{Payload}
-use Rattle.paper.specs.Calls.{Call, read, write, tick, take, refresh, move, Answer, numberIn, current, superseded}
-use Rattle.model.specs.Calls.{Outcome, shelfOf, homeShelf, answered, made, refusal, reading, acted, step}
+use Rattle.paper.specs.Calls.{Call, read, write, tick, take, refresh, move, list, Answer, numberIn, current, superseded}
+use Rattle.model.specs.Calls.{Outcome, shelfOf, homeShelf, answered, made, refusal, reading, listing, acted, step}
 use Rattle.model.specs.System.{ofModel, run}
 use Rattle.model.specs.Demands.{Wrote, now, Made, WriteAnswers}
 use Rattle.model.proofs.Places.{pick-all, put-same, put-other, setShelf-here}
@@ -26,13 +26,14 @@ use Rattle.model.proofs.Unique.{wrote-stamp, at-least}
 module _ (π : Counts) where
   -- what is done answers with the number 0
   acted-number : (σ : State) (q : Call) → numberIn (acted π σ q .answer) ≡ 0
-  unfolding acted reading numberIn
+  unfolding acted reading listing numberIn
   acted-number σ (read c k) = refl
   acted-number σ (write c k p) = pick-all (λ (a : Answer). numberIn a ≡ 0) _ (λ t. refl) (λ t. refl)
   acted-number σ (tick d s) = refl
   acted-number σ (take d s o) = refl
   acted-number σ (refresh d s) = refl
   acted-number σ (move c d) = refl
+  acted-number σ (list c ks) = refl
 
   pub step-number : (σ : State) (q : Call) → numberIn (step π σ q .answer) ≡ refusal π σ q
   unfolding numberIn

@@ -4,8 +4,8 @@
 use Prim.Native.Nat.{ℕ, _≤_, _<_, max}
 use native.Mathlib.Omega.{arith}
 use native.Mathlib.Nat.{le-refl, le-trans}
-use mathlib.Core.Path.{_≡_, sym, subst, ap, _∙_}
-use mathlib.Core.Logic.{⊎-elim}
+use mathlib.Core.Path.{_≡_, sym, subst, subst₂, ap, _∙_}
+use mathlib.Core.Logic.{_⊎_, ⊎-elim}
 use mathlib.Core.Bool.{true, false}
 use mathlib.Core.List.{List, _∷_}
 use Rattle.order.specs.Vector.{Vec, merged, zeros}
@@ -13,11 +13,11 @@ use Rattle.order.specs.Order.{above}
 use Rattle.order.proofs.OrderLaws.{above-entrywise}
 use Rattle.order.proofs.VectorLaws.{covered-intro}
 use Rattle.loops.proofs.BoolLaws.{both-ways}
-use Rattle.model.specs.Parts.{Counts, Version, Write, State, rank, stamp, setShelf, setCrew, stampOf}
+use Rattle.model.specs.Parts.{Counts, Version, Write, State, rank, stamp, setShelf, setCrew, stampOf, unwritten}
 use Rattle.model.specs.Rules.{settled, clear, keep, emit, send}
 use Rattle.paper.specs.declared.answer.Payload.{Payload}
-use Rattle.paper.specs.Calls.{Call, read, write}
-use Rattle.model.specs.Calls.{shelfOf, homeShelf, answered, made, refusal, reading, acted}
+use Rattle.paper.specs.Calls.{Call, read, write, list}
+use Rattle.model.specs.Calls.{gathered, shelfOf, homeShelf, answered, onPage, made, refusal, reading, listing, acted}
 use Rattle.model.specs.System.{ofModel, run}
 use Rattle.model.specs.Demands.{Wrote, Got, MadeAt, now, earlier, Made, Past, wrote, got, kept, under}
 use Rattle.model.proofs.Places.{put-all, put-same, Other}
@@ -25,7 +25,8 @@ use Rattle.model.proofs.Showing.{AtMost, atMost-trans}
 use Rattle.model.proofs.Chains.{chain-member}
 use Rattle.model.proofs.Invariant.{Stands, stored, held, coming, unwritten-zeros}
 use Rattle.model.proofs.Settling.{raised-offered, settled-rises, settled-has}
-use Rattle.model.proofs.Refusals.{read-passed, write-passed, SetUp, shelf-below}
+use Rattle.model.proofs.Refusals.{read-passed, write-passed, list-passed, SetUp, shelf-below}
+use Rattle.model.proofs.Pages.{gathered-has, page-made}
 use Rattle.model.proofs.Steps.{answered-made}
 use Rattle.model.proofs.Histories.{run-done, made-more, inv, call-changes}
 
@@ -39,8 +40,13 @@ module _ (π : Counts) (homes : List ℕ) where
   unfolding acted reading answered homeShelf setShelf setCrew
   read-crew h c k e = ap (λ (σ : State). σ .crew c) (run-done π homes h (read c k) e) ∙ put-same c _ _
 
+  pub list-crew : (h : List Call) (c : ℕ) (ks : List ℕ) → refusal π (run π homes h) (list c ks) ≡ 0
+      → run π homes (list c ks ∷ h) .crew c ≡ gathered (run π homes h .crew c) (λ k. onPage π c k (run π homes h) .vector) ks
+  unfolding acted listing onPage setCrew
+  list-crew h c ks e = ap (λ (σ : State). σ .crew c) (run-done π homes h (list c ks) e) ∙ put-same c _ _
+
   -- a write is above its author's vector when it was made
-  made-above : {h g : List Call} {b : ℕ} {w : Write} → MadeAt (ofModel π homes) h g b w → (x : ℕ) → run π homes g .crew b x ≤ w .version .vector x
+  pub made-above : {h g : List Call} {b : ℕ} {w : Write} → MadeAt (ofModel π homes) h g b w → (x : ℕ) → run π homes g .crew b x ≤ w .version .vector x
   made-above (now {h = g} {q = q} {c = b} {w = w} t) x = subst (λ (y : Version). run π homes g .crew b x ≤ y .vector x) (sym (t .makes .2)) (up x)
     where
       p : refusal π (run π homes g) (write b (w .bearing) (t .makes .0)) ≡ 0
@@ -69,14 +75,19 @@ module _ (π : Counts) (homes : List ℕ) where
 
   got-below : {h : List Call} {q : Call} {c : ℕ} {w : Write} → Got (ofModel π homes) h q c (w .bearing) (w .version) → (x : ℕ) → w .version .vector x ≤ run π homes (q ∷ h) .crew c x
   unfolding merged
-  got-below {h} {q} {c} {w} t x = subst (λ y. w .version .vector x ≤ run π homes (y ∷ h) .crew c x) (sym (t .gets .0))
-      (under-max (run π homes h .crew c x) (ap (λ (v : Version). v .vector x) (t .gets .1))
-      (ap (λ (v : Vec). v x) (read-crew h c (w .bearing) (subst (λ y. refusal π (run π homes h) y ≡ 0) (t .gets .0) (t .passed)))))
+  got-below {h} {q} {c} {w} t x = ⊎-elim
+      (λ r. subst (λ y. w .version .vector x ≤ run π homes (y ∷ h) .crew c x) (sym (r .0))
+      (under-max (run π homes h .crew c x) (ap (λ (v : Version). v .vector x) (r .1))
+      (ap (λ (v : Vec). v x) (read-crew h c (w .bearing) (subst (λ y. refusal π (run π homes h) y ≡ 0) (r .0) (t .passed))))))
+      (λ l. subst (λ y. w .version .vector x ≤ run π homes (y ∷ h) .crew c x) (sym (l .1))
+      (subst₂ (λ (a : Version) (b : Vec). a .vector x ≤ b x) (sym (l .3)) (sym (list-crew h c (l .0) (subst (λ y. refusal π (run π homes h) y ≡ 0) (l .1) (t .passed))))
+      (gathered-has _ (λ k. onPage π c k (run π homes h) .vector) (l .0) (w .bearing) (l .2) x)))
+      (t .gets)
     where
       under-max : {a b n : ℕ} (m : ℕ) → a ≡ b → n ≡ max m b → a ≤ n
       under-max m e f = omega arith
 
-  made-since : {h g : List Call} {b : ℕ} {v w : Write} → MadeAt (ofModel π homes) h g b v → Made (ofModel π homes) g w → Made (ofModel π homes) h w
+  pub made-since : {h g : List Call} {b : ℕ} {v w : Write} → MadeAt (ofModel π homes) h g b v → Made (ofModel π homes) g w → Made (ofModel π homes) h w
   made-since (now t) m = made-more π homes _ m
   made-since (earlier t) m = made-more π homes _ (made-since t m)
 
@@ -90,10 +101,17 @@ module _ (π : Counts) (homes : List ℕ) where
     -- what a crew read was made
     got-made : {h : List Call} {q : Call} {c : ℕ} {w : Write} → Got (ofModel π homes) h q c (w .bearing) (w .version) → zeros (π .depots) (w .version .vector) ≡ false → Made (ofModel π homes) h w
     got-made {h} {q} {c} {w} t z = ⊎-elim
-        (λ a. absurd (both-ways (unwritten-zeros (π .depots) (t .gets .1 ∙ a)) z))
-        (λ m. subst (λ (v : Version). Made (ofModel π homes) h (record { bearing = w .bearing; version = v })) (sym (t .gets .1)) m)
-        (answered-made π (Made (ofModel π homes) h) (run π homes h) (inv π homes u h .sound) (shelf-below π u) c (w .bearing)
-        (read-passed π _ c (w .bearing) (subst (λ y. refusal π (run π homes h) y ≡ 0) (t .gets .0) (t .passed)) .crew))
+        (λ r. is (r .1) (answered-made π (Made (ofModel π homes) h) (run π homes h) (inv π homes u h .sound) (shelf-below π u) c (w .bearing)
+        (read-passed π _ c (w .bearing) (subst (λ y. refusal π (run π homes h) y ≡ 0) (r .0) (t .passed)) .crew)))
+        (λ l. is (l .3) (page-made π c (run π homes h) (Made (ofModel π homes) h) (inv π homes u h .sound)
+        (list-passed π _ c (l .0) (subst (λ y. refusal π (run π homes h) y ≡ 0) (l .1) (t .passed)) .crew) (shelf-below π u) (w .bearing)))
+        (t .gets)
+      where
+        is : {v : Version} → w .version ≡ v → (v ≡ unwritten) ⊎ Made (ofModel π homes) h (record { bearing = w .bearing; version = v }) → Made (ofModel π homes) h w
+        is e m = ⊎-elim
+            (λ a. absurd (both-ways (unwritten-zeros (π .depots) (e ∙ a)) z))
+            (λ m. subst (λ (v : Version). Made (ofModel π homes) h (record { bearing = w .bearing; version = v })) (sym e) m)
+            m
 
     pub past-made : {h : List Call} {c : ℕ} {w : Write} → Past π (ofModel π homes) h c w → Made (ofModel π homes) h w
     past-made (wrote t) = record { before = _; author = _; at = now t }

@@ -13,8 +13,8 @@ use Rattle.order.specs.Order.{Rank, above}
 use Rattle.model.specs.Parts.{Counts, Version, Write, copy, Shelf, State, put, rank, greater, setShelf, setCrew, setHome, lowest, other, stampOf, unwritten, emptyShelf, fresh, end, room}
 use Rattle.model.specs.Rules.{raised, keeping, clear, shownOf, left, shown, settled, settle, storing, keep, ticked, receiving, heldOf, taking, holds, emit, send, roomy, lowestSeen}
 use Rattle.paper.specs.declared.answer.Payload.{Payload}
-use Rattle.paper.specs.Calls.{Call, read, write, tick, take, refresh, move, Answer, refused, done, current, superseded, first}
-use Rattle.model.specs.Calls.{Outcome, entries, told, none, shelfOf, homeShelf, answered, made, arrived, refusal, reading, acted, step, answers, ends}
+use Rattle.paper.specs.Calls.{Call, read, write, tick, take, refresh, move, list, Answer, refused, done, current, superseded, first}
+use Rattle.model.specs.Calls.{Outcome, entries, told, none, shelfOf, homeShelf, answered, made, arrived, gathered, allBelow, within, pageVector, paged, listing, refusal, reading, acted, step, answers, ends}
 
 unfoldable pub refreshFrom : ℕ → ℕ → State → Shelf → Outcome
 refreshFrom d s σ g = record { answer = done; state = setShelf d s g σ }
@@ -55,12 +55,16 @@ module _ (higher : ℕ → Rank → Rank → Bool) where
           state = send π d s (copy w) (setShelf d s (storingBy (π .depots) w (τ .shelf d s)) τ);
         }
 
+    unfoldable pub pagedBy : ℕ → State → State
+    pagedBy c σ = times (π .shelves) (λ s τ. setShelf (σ .home c) s (settledBy (π .depots) (σ .home c) (pageVector π c σ) (τ .shelf (σ .home c) s)) τ) σ
+
     unfoldable pub actedBy : State → Call → Outcome
     actedBy σ (read c k) = reading π c k σ (settledBy (π .depots) (σ .home c) (σ .crew c) (σ .shelf (σ .home c) (shelfOf π k)))
     actedBy σ (write c k p) = writeFrom c k p σ (settledBy (π .depots) (σ .home c) (σ .crew c) (σ .shelf (σ .home c) (shelfOf π k)))
     actedBy σ (tick d s) = acted π σ (tick d s)
     actedBy σ (take d s o) = acted π σ (take d s o)
     actedBy σ (move c d) = acted π σ (move c d)
+    actedBy σ (list c ks) = listing π c ks σ (pagedBy c σ)
     actedBy σ (refresh d s) = refreshFrom d s σ (settledBy (π .depots) d (lowestSeen π d σ) (σ .shelf d s))
 
     unfoldable pub stepBy : State → Call → Outcome
@@ -80,8 +84,8 @@ unfolding zeros agree times every pick covered merged
     cardFit lengthFit lt le ofBits
     put lowest other stampOf unwritten emptyShelf fresh setShelf setCrew setHome end room
     raised clear left ticked receiving heldOf taking holds lowestSeen emit send roomy
-    entries told first none shelfOf made arrived refusal reading acted
-    refreshFrom keepingBy shownBy settledBy storingBy writeFrom actedBy stepBy answersBy
+    entries told first none shelfOf made arrived gathered allBelow within pageVector listing refusal reading acted
+    refreshFrom keepingBy shownBy settledBy storingBy writeFrom pagedBy actedBy stepBy answersBy
 answersNow f π σ l = answersBy f π σ l
 
 unfoldable pub endsNow : (ℕ → Rank → Rank → Bool) → Counts → State → List Call → State
@@ -106,12 +110,14 @@ settled-is n d u h = λ i. record {
 
 module _ (π : Counts) where
   acted-is : (σ : State) (q : Call) → actedBy above π σ q ≡ acted π σ q
-  unfolding actedBy refreshFrom writeFrom storingBy keepingBy acted homeShelf answered settle keep storing keeping greater
+  unfolding actedBy pagedBy paged refreshFrom writeFrom storingBy keepingBy acted homeShelf answered settle keep storing keeping greater
   acted-is σ (read c k) = ap (reading π c k σ) (settled-is _ _ _ _)
   acted-is σ (write c k p) = ap (writeFrom above π c k p σ) (settled-is _ _ _ _)
   acted-is σ (tick d s) = refl
   acted-is σ (take d s o) = refl
   acted-is σ (move c d) = refl
+  acted-is σ (list c ks) = λ i.
+      listing π c ks σ (times (π .shelves) (λ s τ. setShelf (σ .home c) s (settled-is (π .depots) (σ .home c) (pageVector π c σ) (τ .shelf (σ .home c) s) i) τ) σ)
   acted-is σ (refresh d s) = ap (λ (g : Shelf). refreshFrom d s σ g) (settled-is _ _ _ _)
 
   step-is : (σ : State) (q : Call) → stepBy above π σ q ≡ step π σ q

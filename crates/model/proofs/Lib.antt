@@ -7,12 +7,14 @@ pub mod Taking
 pub mod Keeping
 pub mod Sending
 pub mod Refusals
+pub mod Pages
 pub mod Steps
 pub mod Histories
 pub mod Room
 pub mod Unique
 pub mod Causal
 pub mod Answering
+pub mod Lists
 pub mod Demand2
 pub mod Dated
 pub mod Limits

@@ -2,6 +2,7 @@
 -- Assumes nothing.
 use Prim.Native.Nat.{ℕ}
 use mathlib.Core.Path.{_≡_, refl, sym, ap, _∙_}
+use mathlib.Core.Logic.{inl}
 use mathlib.Core.Bool.{false}
 use mathlib.Core.List.{List, [], _∷_, _++_}
 use Rattle.order.specs.Vector.{zeros}
@@ -114,12 +115,12 @@ made-thirty = earlier (earlier (earlier (earlier (earlier (earlier (earlier (now
 
 pub through-read : Past three trio thirtyRead 1 twenty
 unfolding thirtyRead thirty
-through-read = under (got (record { passed = reads-thirty; gets = (refl, answers-thirty) }) thirty-written) made-thirty wrote-twenty
+through-read = under (got (record { passed = reads-thirty; gets = inl (refl, answers-thirty) }) thirty-written) made-thirty wrote-twenty
 
 pub gets-twenty : Got trio thirtyRead (read 1 0) 1 0 (twenty .version)
-gets-twenty = record { passed = reads-twenty; gets = (refl, answers-twenty) }
+gets-twenty = record { passed = reads-twenty; gets = inl (refl, answers-twenty) }
 
 pub through-two : Past three trio fortyRead 2 twenty
 unfolding fortyRead forty
-through-two = under (got (record { passed = reads-forty; gets = (refl, answers-forty) }) forty-written)
+through-two = under (got (record { passed = reads-forty; gets = inl (refl, answers-forty) }) forty-written)
     (earlier (now (record { passed = writes-forty; makes = (day 40, refl, refl) }))) through-read

@@ -16,10 +16,10 @@ use Rattle.loops.proofs.LoopLaws.{every-at}
 use Rattle.order.proofs.VectorLaws.{covered-at}
 use Rattle.card.specs.Card.{cardFit}
 use Rattle.paper.specs.declared.answer.Payload.{Payload}
-use Rattle.model.specs.Parts.{Counts, Message, State, mostBearings, fresh, end}
+use Rattle.model.specs.Parts.{Counts, Message, State, mostBearings, mostListed, fresh, end}
 use Rattle.model.specs.Rules.{roomy, lowestSeen}
-use Rattle.paper.specs.Calls.{lastDay, read, write, tick, take, refresh, move, first}
-use Rattle.model.specs.Calls.{none, within, setup, shelfOf, arrived, refusal}
+use Rattle.paper.specs.Calls.{lastDay, read, write, tick, take, refresh, move, list, first}
+use Rattle.model.specs.Calls.{none, within, allBelow, setup, shelfOf, arrived, refusal}
 use Rattle.model.proofs.Places.{Other, lowest-below}
 
 -- no number comes from the first test, and none from the rest
@@ -191,6 +191,19 @@ module _ (π : Counts) where
             (λ (h : arrived π d (σ .crew c) σ ≡ true). inr (λ r x hr o. le-trans (covered-at (π .depots) d _ _ h x (o .below) (o .apart)) (lowest-below (π .shelves) _ r hr)))
             (or-cases (eqb d (σ .home c)) (arrived π d (σ .crew c) σ) (not-none _ (t .0)));
       }
+
+  pub record ListPassed (c : ℕ) (ks : List ℕ) : Type 0 where
+    pub crew : c < π .crews
+    pub counted : within (length ks) mostListed ≡ true
+    pub below : allBelow (π .bearings) ks ≡ true
+
+  pub list-passed : (σ : State) (c : ℕ) (ks : List ℕ) → refusal π σ (list c ks) ≡ 0 → ListPassed c ks
+  unfolding refusal
+  list-passed σ c ks e =
+      let a = first-none (leb (π .crews) c) 4 _ e in
+      let b = first-none (not (within (length ks) mostListed)) 14 _ (a .1) in
+      let t = first-none (not (allBelow (π .bearings) ks)) 3 _ (b .1) in
+      record { crew = leb-false (π .crews) c (a .0); counted = not-none _ (b .0); below = not-none _ (t .0) }
 
   -- what a setup that is done has settled
   pub record SetUp (homes : List ℕ) : Type 0 where

@@ -1,14 +1,14 @@
 -- Raise and show changes one shelf, and keeps everything: what is offered has been seen on every shelf of the depot.
 -- Assumes nothing.
-use Prim.Native.Nat.{ℕ, _≤_, _<_}
+use Prim.Native.Nat.{ℕ, _≤_, _<_, max}
 use native.Mathlib.Omega.{arith}
 use native.Mathlib.Nat.{le-refl, le-trans}
-use mathlib.Core.Path.{_≡_, refl, sym, subst, subst₃}
+use mathlib.Core.Path.{_≡_, refl, sym, subst, subst₃, ap, _∙_}
 use mathlib.Core.Logic.{_⊎_, inl, inr, ⊎-elim}
 use mathlib.Core.Bool.{true, false}
 use mathlib.Core.List.{List, List·Memᴰ}
 use Rattle.order.specs.Vector.{Vec}
-use Rattle.loops.proofs.BoolLaws.{decided, both-ways}
+use Rattle.loops.proofs.BoolLaws.{decided, both-ways, pick-true, pick-false}
 use Rattle.order.proofs.VectorLaws.{covered-at}
 use Rattle.model.specs.Parts.{Counts, Version, Write, Message, copy, Shelf, State, setShelf, unwritten, other}
 use Rattle.model.specs.Rules.{raised, clear, shown, settled, settle}
@@ -71,6 +71,17 @@ module _ (n d : ℕ) (u : Vec) (h : Shelf) where
   pub settled-stays : {w : Write} (o : ℕ) → List·Memᴰ w (h .taken o) → clear n d up w ≡ false → List·Memᴰ w (settled n d u h .taken o)
   unfolding settled shown
   settled-stays o = left-has (clear n d up) (h .taken o)
+
+-- two vectors that raise alike settle alike
+pub settled-alike : (n d : ℕ) (u v : Vec) (h : Shelf) → ((x : ℕ) → Other n d x → max (h .stable x) (u x) ≡ max (h .stable x) (v x)) → settled n d u h ≡ settled n d v h
+unfolding settled raised
+settled-alike n d u v h e = ap (λ (s : Vec). shown n d (record { clock = h .clock; stable = s; seen = h .seen; store = h .store; taken = h .taken; untaken = h .untaken })) (λ i x. same x i)
+  where
+    same : (x : ℕ) → raised n d u (h .stable) x ≡ raised n d v (h .stable) x
+    same x = ⊎-elim
+        (λ (t : other n d x ≡ true). pick-true _ _ t ∙ e x (other-true n d x t) ∙ sym (pick-true _ _ t))
+        (λ (t : other n d x ≡ false). pick-false _ _ t ∙ sym (pick-false _ _ t))
+        (decided (other n d x))
 
 module _ (π : Counts) (M : Write → Type 0) (σ : State) (z : Sound π M σ) (d s : ℕ) (hd : d < π .depots) (hs : s < π .shelves) (u : Vec)
     (offered : (r x : ℕ) → r < π .shelves → Other (π .depots) d x → u x ≤ σ .shelf d r .seen x) where

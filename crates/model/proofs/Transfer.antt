@@ -1,23 +1,30 @@
 -- A system that follows another meets the demands that the other meets. Each sentence looks at both through the same history.
 -- Assumes nothing.
-use Prim.Native.Nat.{ℕ, suc, _+_, _-_, _≤_, _<_, min}
+use Prim.Native.Nat.{ℕ, suc, _+_, _-_, _≤_, _<_, min, max}
 use native.Mathlib.Nat.{mod-lt}
 use mathlib.Core.Path.{_≡_, refl, sym, _∙_, ap, ap₂, subst, subst₂}
 use mathlib.Core.Logic.{inl, inr, ⊎-elim}
 use mathlib.Core.Bool.{true}
 use mathlib.Core.List.{List, [], _∷_, _++_}
-use Rattle.order.specs.Vector.{covered}
+use Rattle.order.specs.Vector.{Vec, covered, merged}
 use Rattle.order.specs.Order.{above}
 use Rattle.order.proofs.VectorLaws.{covered-same}
 use Rattle.loops.proofs.LoopLaws.{times-same}
 use Rattle.model.specs.Parts.{Counts, Version, Write, rank, stamp, lowest, end, room}
-use Rattle.paper.specs.Calls.{Call, write, tick, take, numberIn}
-use Rattle.model.specs.Calls.{shelfOf}
+use Rattle.paper.specs.Calls.{Call, write, tick, take, list, numberIn}
+use Rattle.model.specs.Calls.{told, gathered, shelfOf}
 use Rattle.model.specs.System.{System, after}
 use Rattle.model.specs.Follows.{Alike, Follows}
+use Rattle.model.specs.Page.{OnePage}
 use Rattle.model.specs.Demands as demands
-use Rattle.model.specs.Demands.{AtLeast, Dated, Carded, Silent, Wrote, Got, MadeAt, now, earlier, Made, Past, wrote, got, kept, under}
+use Rattle.model.specs.Demands.{AtLeast, Tells, Dated, Carded, Silent, Wrote, Got, MadeAt, now, earlier, Made, Past, wrote, got, kept, under}
 use Rattle.model.specs.Demands.{NotInvented, WriteAnswers, Demand2, Round, Rounds, lowestClock, Demand3, Limits, Demands}
+
+-- an entry of a maximum is that of what it is taken of
+gathered-at : (x : ℕ) (u v : Vec) (f : ℕ → Vec) (ks : List ℕ) → u x ≡ v x → gathered u f ks x ≡ gathered v f ks x
+unfolding gathered merged
+gathered-at x u v f [] e = e
+gathered-at x u v f (k ∷ ks) e = gathered-at x (merged u (f k)) (merged v (f k)) f ks (ap (λ n. max n (f k x)) e)
 
 -- a round of one system is a round of another that has the same numbers
 round-by : {π : Counts} {S T : System} → ((h : List Call) (q : Call) → T .number (after T h) q ≡ S .number (after S h) q) → {g h : List Call} → Round π S g h → Round π T g h
@@ -130,7 +137,7 @@ module _ {π : Counts} {S T : System} (f : Follows π S T) where
           let house = alike h .home c (in-range .0) in
           let below = alike h .housed c (in-range .0) in
           record {
-            answer = alike h .answer q ∙ R .answer;
+            answer = subst (λ a. Tells q a k (told (π .depots) v)) (sym (alike h .answer q)) (R .answer);
             stored = ap (λ d. S .store (after S (q ∷ h)) d k) house ∙ alike (q ∷ h) .store _ k below (in-range .1) ∙ R .stored;
             clear = subst (λ d. covered (π .depots) d (v .vector) (S .stable (after S (q ∷ h)) d (shelfOf π k)) ≡ true) (sym house) (cover (q ∷ h) _ k below {u = v} {v = v} refl (R .clear));
             written = written-from (R .written);
@@ -143,6 +150,31 @@ module _ {π : Counts} {S T : System} (f : Follows π S T) where
       stable-rises = λ l h d s x hd hs hx. both (alike h .stable d s x hd hs hx) (alike (l ++ h) .stable d s x hd hs hx) (D .stable-rises l h d s x hd hs hx);
       seen-rises = λ l h d s x hd hs hx n. both (alike h .seen d s x hd hs hx n) (alike (l ++ h) .seen d s x hd hs hx n) (D .seen-rises l h d s x hd hs hx n);
       clock-rises = λ l h d s hd hs. both (alike h .clock d s hd hs) (alike (l ++ h) .clock d s hd hs) (D .clock-rises l h d s hd hs);
+    }
+
+    -- ---- one page, one moment
+
+    pub page-from : OnePage π T → OnePage π S
+    unfolding shelfOf
+    page-from P = record {
+      lists = λ h c ks e. let L = P .lists h c ks (sym (alike h .number _) ∙ e) in record {
+        named = L .named;
+        version = L .version;
+        answer = alike h .answer (list c ks) ∙ L .answer;
+        got = λ k m. got-from (L .got k m);
+        merged = λ x hx. alike (list c ks ∷ h) .crew c x (L .named) hx ∙ L .merged x hx ∙ gathered-at x _ _ _ ks (sym (alike h .crew c x (L .named) hx));
+        moment = λ g b v w mv mw is m p. L .moment g b v w mv mw is (at-to m) (past-to p);
+      };
+      alone = λ h c k e same.
+          let e′ = sym (alike h .number _) ∙ e in
+          let hc = P .lists h c (k ∷ []) e′ .named in
+          let house = alike h .home c hc in
+          let below = alike h .housed c hc in
+          let t = P .alone h c k e′ (λ r x hr hx.
+          sym (ap (λ d. S .stable (after S h) d r x) house ∙ alike h .stable _ r x below hr hx)
+          ∙ same r x hr hx
+          ∙ ap (λ d. S .stable (after S h) d (shelfOf π k) x) house ∙ alike h .stable _ _ x below (mod-lt k shelves) hx) in
+          (t .0, alike h .answer _ ∙ t .1, alike h .answer _ ∙ t .2);
     }
 
   -- ---- demand 3

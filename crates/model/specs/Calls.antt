@@ -2,16 +2,16 @@
 -- Assumes nothing.
 use Prim.Native.Nat.{ℕ, zero, suc, _%_}
 use mathlib.Core.Bool.{Bool, true, false, _||_, not, _&&_}
-use mathlib.Core.List.{List, [], _∷_, _++_}
+use mathlib.Core.List.{List, [], _∷_, _++_, map}
 use lib.Dec.{eqb, ltb, leb}
 use lib.ListN.{length, getD}
-use Rattle.paper.specs.Calls.{lastDay, Call, read, write, tick, take, refresh, move, Told, read-value, read-unwritten, Answer, refused, done, reads, current, superseded, first}
-use Rattle.loops.specs.Loops.{every, pick}
+use Rattle.paper.specs.Calls.{lastDay, Call, read, write, tick, take, refresh, move, list, Told, read-value, read-unwritten, Answer, refused, done, reads, current, superseded, listed, first}
+use Rattle.loops.specs.Loops.{times, every, pick}
 use Rattle.card.specs.Card.{cardFit}
 use Rattle.paper.specs.declared.answer.Payload.{Payload}
 use Rattle.order.specs.Vector.{Vec, merged, zeros, covered}
 use Rattle.order.specs.Order.{above}
-use Rattle.model.specs.Parts.{mostDepots, mostShelves, mostBearings, mostCrews}
+use Rattle.model.specs.Parts.{mostDepots, mostShelves, mostBearings, mostCrews, mostListed}
 use Rattle.model.specs.Parts.{Counts, Version, Write, Message, copy, heartbeat, Shelf, State, put, rank, setShelf, setCrew, setHome, end}
 use Rattle.model.specs.Rules.{settled, settle, keep, send, roomy, taking, lowestSeen}
 
@@ -28,6 +28,16 @@ entries (suc i) u = entries i u ++ (u i ∷ [])
 -- what is told of the stored version v, with n depots
 unfoldable pub told : ℕ → Version → Told
 told n v = pick (zeros n (v .vector)) (read-unwritten (entries n (v .vector))) (read-value (v .payload) (entries n (v .vector)))
+
+-- every bearing of the list is below n
+unfoldable pub allBelow : ℕ → List ℕ → Bool
+allBelow n [] = true
+allBelow n (k ∷ ks) = ltb k n && allBelow n ks
+
+-- the entrywise maximum of u and of f k for every k of the list
+unfoldable pub gathered : Vec → (ℕ → Vec) → List ℕ → Vec
+gathered u f [] = u
+gathered u f (k ∷ ks) = gathered (merged u (f k)) f ks
 
 -- no untaken message
 unfoldable pub none : List Message → Bool
@@ -56,6 +66,18 @@ module _ (π : Counts) where
   -- the version that a read answers with
   unfoldable pub answered : ℕ → ℕ → State → Version
   answered c k σ = homeShelf c k σ .store k
+
+  -- what a list offers: the entrywise maximum of the crew's vector and the stable vectors of all home shelves
+  unfoldable pub pageVector : ℕ → State → Vec
+  pageVector c σ = times (π .shelves) (λ s u. merged u (σ .shelf (σ .home c) s .stable)) (σ .crew c)
+
+  -- every home shelf raised with it and shown
+  unfoldable pub paged : ℕ → State → State
+  paged c σ = times (π .shelves) (λ s τ. settle π (σ .home c) s (pageVector c σ) τ) σ
+
+  -- the version that a list answers with for bearing k
+  unfoldable pub onPage : ℕ → ℕ → State → Version
+  onPage c k σ = paged c σ .shelf (σ .home c) (shelfOf k) .store k
 
   -- the version that a write makes: the crew's vector, with the home entry set to the new clock
   unfoldable pub made : ℕ → ℕ → Payload → State → Version
@@ -105,12 +127,24 @@ module _ (π : Counts) where
       ∷ ((leb (π .depots) d, 2)
       ∷ ((not (eqb d (σ .home c) || arrived d (σ .crew c) σ), 12)
       ∷ [])))
+  refusal σ (list c ks) = first
+      ((leb (π .crews) c, 5)
+      ∷ ((not (within (length ks) mostListed), 15)
+      ∷ ((not (allBelow (π .bearings) ks), 4)
+      ∷ [])))
 
   -- a read, its home shelf h raised and shown: it answers what h stores, and the crew's vector becomes the entrywise maximum with it
   unfoldable pub reading : ℕ → ℕ → State → Shelf → Outcome
   reading c k σ h = record {
     answer = reads (told (π .depots) (h .store k));
     state = setCrew c (merged (σ .crew c) (h .store k .vector)) (setShelf (σ .home c) (shelfOf k) h σ);
+  }
+
+  -- a list, the state τ having every home shelf raised and shown: it answers what they store, and the crew's vector becomes the maximum with all of it
+  unfoldable pub listing : ℕ → List ℕ → State → State → Outcome
+  listing c ks σ τ = record {
+    answer = listed (map (λ k. told (π .depots) (τ .shelf (σ .home c) (shelfOf k) .store k)) ks);
+    state = setCrew c (gathered (σ .crew c) (λ k. τ .shelf (σ .home c) (shelfOf k) .store k .vector) ks) τ;
   }
 
   -- what a call answers and does where it is not refused
@@ -141,6 +175,7 @@ module _ (π : Counts) where
     answer = done;
     state = setHome c d σ;
   }
+  acted σ (list c ks) = listing c ks σ (paged c σ)
 
   -- a call: a refused one changes nothing
   unfoldable pub step : State → Call → Outcome

@@ -5,13 +5,13 @@ use mathlib.Core.Path.{_≡_}
 use mathlib.Core.Logic.{_⊎_}
 use mathlib.Core.Bool.{true, false}
 use mathlib.Core.List.{List, _∷_, _++_, List·Memᴰ}
-use lib.ListN.{length}
+use lib.ListN.{length, getD}
 use Rattle.order.specs.Vector.{covered, zeros}
 use Rattle.order.specs.Order.{above}
 use Rattle.model.specs.Parts.{Counts, Version, Write, rank, stamp, unwritten, lowest, end, room}
 use Rattle.card.specs.Card.{cardFit}
 use Rattle.paper.specs.declared.answer.Payload.{Payload}
-use Rattle.paper.specs.Calls.{lastDay, Call, read, write, tick, take, refresh, move, reads, current, superseded, numberIn}
+use Rattle.paper.specs.Calls.{lastDay, Call, read, write, tick, take, refresh, move, list, Told, Answer, reads, listed, current, superseded, numberIn}
 use Rattle.model.specs.Calls.{told, shelfOf}
 use Rattle.model.specs.System.{System, after}
 
@@ -32,6 +32,7 @@ pub data By (c : ℕ) : Call → Type 0 where
   a-read : {k : ℕ} → By c (read c k)
   a-write : {k : ℕ} {p : Payload} → By c (write c k p)
   a-move : {d : ℕ} → By c (move c d)
+  a-list : {ks : List ℕ} → By c (list c ks)
 
 -- the call q is one of the list l
 abbrev pub Among : Call → List Call → Type 0
@@ -44,6 +45,12 @@ Each kind l = (q : Call) → Among q l → kind q
 -- with n depots, the version a is b or a greater one
 abbrev pub AtLeast : ℕ → Version → Version → Type 0
 AtLeast n a b = (a ≡ b) ⊎ (above n (rank a) (rank b) ≡ true)
+
+-- the answer to the call q tells t of bearing k: a read's does, and so does a list's wherever the bearing stands in it
+pub data Tells : Call → Answer → ℕ → Told → Type 0 where
+  by-read : {c k : ℕ} {t : Told} → Tells (read c k) (reads t) k t
+  by-list : {c k : ℕ} {ks : List ℕ} {t : Told} {ts : List Told} → length ts ≡ length ks → ((i : ℕ) → i < length ks → getD ks i 0 ≡ k → getD ts i t ≡ t)
+      → Tells (list c ks) (listed ts) k t
 
 -- the version v is unwritten, or its value is a day of the calendar
 abbrev pub Dated : Version → Type 0
@@ -110,7 +117,7 @@ module _ (π : Counts) (S : System) where
 
   -- what the call q, done after history h, answers crew c of bearing k: the version v
   pub record ReadAnswers (h : List Call) (q : Call) (c k : ℕ) (v : Version) : Type 0 where
-    pub answer : S .answer (after S h) q ≡ reads (told (π .depots) v)
+    pub answer : Tells q (S .answer (after S h) q) k (told (π .depots) v)
     -- it is what the home shelf then stores
     pub stored : S .store (after S (q ∷ h)) (S .home (after S h) c) k ≡ v
     pub clear : Covered (q ∷ h) (S .home (after S h) c) k v

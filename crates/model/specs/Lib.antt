@@ -3,6 +3,7 @@ pub mod Rules
 pub mod Calls
 pub mod System
 pub mod Demands
+pub mod Page
 pub mod Cases
 pub mod Words
 pub mod Follows

@@ -30,6 +30,10 @@ mostBearings = 160
 abbrev pub mostCrews : ℕ
 mostCrews = 16
 
+-- a list has at least one bearing, and at most
+abbrev pub mostListed : ℕ
+mostListed = 8
+
 -- entries, clocks and stamps go from 0 to here
 unfoldable pub end : ℕ
 end = 2147483647

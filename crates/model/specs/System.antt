@@ -2,13 +2,14 @@
 -- Assumes nothing.
 use Prim.Native.Nat.{ℕ}
 use mathlib.Core.Path.{_≡_}
-use mathlib.Core.List.{List, [], _∷_}
+use mathlib.Core.Logic.{_⊎_}
+use mathlib.Core.List.{List, [], _∷_, List·Memᴰ}
 use Rattle.order.specs.Vector.{Vec}
 use Rattle.model.specs.Parts.{Counts, Version, Write, State, fresh}
 use Rattle.model.specs.Rules.{holds}
 use Rattle.paper.specs.declared.answer.Payload.{Payload}
-use Rattle.paper.specs.Calls.{Call, read, write, Answer}
-use Rattle.model.specs.Calls.{shelfOf, made, answered, refusal, step}
+use Rattle.paper.specs.Calls.{Call, read, write, list, Answer}
+use Rattle.model.specs.Calls.{shelfOf, made, answered, onPage, refusal, step}
 
 pub record System : Type 1 where
   pub State : Type 0
@@ -52,7 +53,7 @@ ofModel π homes = record {
   held = λ σ d s o. holds o (σ .shelf d s);
   store = λ σ d k. σ .shelf d (shelfOf π k) .store k;
   makes = λ σ q c w. (p : Payload) × (q ≡ write c (w .bearing) p) × (w .version ≡ made π c (w .bearing) p σ);
-  gets = λ σ q c k v. (q ≡ read c k) × (v ≡ answered π c k σ);
+  gets = λ σ q c k v. ((q ≡ read c k) × (v ≡ answered π c k σ)) ⊎ ((ks : List ℕ) × (q ≡ list c ks) × List·Memᴰ k ks × (v ≡ onPage π c k σ));
 }
 
 abbrev pub run : Counts → List ℕ → List Call → State

@@ -6,7 +6,7 @@ use mathlib.Core.List.{List, [], _∷_}
 use lib.Dec.{eqb}
 use lib.ListN.{length}
 use Rattle.loops.specs.Loops.{pick}
-use Rattle.paper.specs.Calls.{read-value, read-unwritten, Answer, refused, done, reads, current, superseded}
+use Rattle.paper.specs.Calls.{read-value, read-unwritten, Answer, refused, done, reads, current, superseded, listed}
 use Rattle.paper.specs.declared.answer.Refusal.{Refusal}
 use Rattle.paper.specs.declared.answer.Refusal.the-variants.{BadBook, BadDepot, BadShelf, BadKey, BadCrew, SameDepot, EmptyLink, Wait, LinkFull, ClockAtEnd, BadCounts, NotHereYet, BadDate, BadCard}
 use Rattle.paper.specs.declared.answer.Answer as plain
@@ -57,6 +57,7 @@ outcomeAt (reads (read-value v u)) = Outcome.Value v
 outcomeAt (reads (read-unwritten u)) = Outcome.Unwritten
 outcomeAt (current stamp) = Outcome.Current stamp
 outcomeAt (superseded stamp) = Outcome.Superseded stamp
+outcomeAt (listed told) = Outcome.Done
 
 outcome-back : (o : Outcome) (u : List ℕ) → outcomeAt (paperOutcome o u) ≡ o
 unfolding paperOutcome outcomeAt

@@ -12,7 +12,7 @@ use Rattle.paper.specs.declared.answer.ReadAnswer.{ReadAnswer}
 use Rattle.paper.specs.declared.answer.WriteAnswer.{WriteAnswer}
 use Rattle.paper.specs.declared.answer.Outcome.{Outcome}
 use Rattle.paper.specs.declared.answer.Reply.{Reply}
-use Rattle.paper.specs.Calls.{read-value, read-unwritten, Answer, refused, done, reads, current, superseded}
+use Rattle.paper.specs.Calls.{read-value, read-unwritten, Answer, refused, done, reads, current, superseded, listed}
 
 -- the number of a refusal
 unfoldable pub numberOf : Refusal → ℕ
@@ -75,6 +75,7 @@ entriesIn (reads (read-value p u)) = u
 entriesIn (reads (read-unwritten u)) = u
 entriesIn (current stamp) = []
 entriesIn (superseded stamp) = []
+entriesIn (listed told) = []
 
 -- entries in room for four, 0 where there is none
 unfoldable pub padded : List ℕ → List ℕ

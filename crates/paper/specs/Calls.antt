@@ -13,7 +13,7 @@ abbrev pub lastDay : ℕ
 lastDay = 146096
 
 -- read (crew, bearing), write (crew, bearing, payload: the value and its card), tick (depot, shelf), take (at depot, shelf, from depot), refresh (depot, shelf),
--- move (crew, new home)
+-- move (crew, new home), list (crew, bearings)
 pub data Call : Type 0 where
   read : ℕ → ℕ → Call
   write : ℕ → ℕ → Payload → Call
@@ -21,18 +21,21 @@ pub data Call : Type 0 where
   take : ℕ → ℕ → ℕ → Call
   refresh : ℕ → ℕ → Call
   move : ℕ → ℕ → Call
+  list : ℕ → List ℕ → Call
 
 -- what is told of a bearing: the payload or "unwritten", with the vector
 pub data Told : Type 0 where
   read-value : Payload → List ℕ → Told
   read-unwritten : List ℕ → Told
 
--- a refusal carries its number and nothing else; a read answers what it is told; a write its stamp, and "current" or "superseded"
+-- a refusal carries its number and nothing else; a read answers what it is told; a write its stamp, and "current" or "superseded"; a list what is told of each
+-- bearing, in list order
 pub data Answer : Type 0 where
   refused : ℕ → Answer
   done : Answer
   reads : Told → Answer
   current superseded : ℕ → Answer
+  listed : List Told → Answer
 
 -- the number of an answer: 0 is done
 unfoldable pub numberIn : Answer → ℕ
@@ -41,6 +44,7 @@ numberIn done = 0
 numberIn (reads t) = 0
 numberIn (current stamp) = 0
 numberIn (superseded stamp) = 0
+numberIn (listed told) = 0
 
 -- the number of the first test that holds, 0, done, where none does
 unfoldable pub first : List (Bool × ℕ) → ℕ
