@@ -59,7 +59,7 @@ module _ (π : Counts) (homes : List ℕ) (u : SetUp π homes) (h : List Call) (
   made-or : (k : ℕ) → (onPage π c k σ ≡ unwritten) ⊎ Made (ofModel π homes) h (record { bearing = k; version = onPage π c k σ })
   made-or k = page-made π c σ (Made (ofModel π homes) h) (inv π homes u h .sound) hc (shelf-below π u) k
 
-  list-shelf : (k : ℕ) → run π homes (list c ks ∷ h) .shelf d (shelfOf π k) ≡ paged π c σ .shelf d (shelfOf π k)
+  pub list-shelf : (k : ℕ) → run π homes (list c ks ∷ h) .shelf d (shelfOf π k) ≡ paged π c σ .shelf d (shelfOf π k)
   unfolding acted listing setCrew
   list-shelf k = ap (λ (σ : State). σ .shelf d (shelfOf π k)) (run-done π homes h (list c ks) e)
 
@@ -114,11 +114,11 @@ one-page π homes z = record {
   };
   alone = λ h c k e same.
       let passed = list-passed π (run π homes h) c (k ∷ []) e in (
-      told (π .depots) (onPage π c k (run π homes h)),
-      list-said π homes u h c (k ∷ []) e,
-      ap (λ (o : Outcome). o .answer) (step-done π (run π homes h) (read c k) (read-passes π _ c k (passed .crew) (one-below (π .bearings) k (passed .below))))
-          ∙ ap (λ (v : Version). reads (told (π .depots) v)) (sym (same-page π homes u h c (k ∷ []) e k same)),
-    );
+        told (π .depots) (onPage π c k (run π homes h)),
+        list-said π homes u h c (k ∷ []) e,
+        ap (λ (o : Outcome). o .answer) (step-done π (run π homes h) (read c k) (read-passes π _ c k (passed .crew) (one-below (π .bearings) k (passed .below))))
+            ∙ ap (λ (v : Version). reads (told (π .depots) v)) (sym (same-page π homes u h c (k ∷ []) e k same)),
+      );
 }
   where
     u : SetUp π homes

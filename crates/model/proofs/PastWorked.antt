@@ -2,18 +2,21 @@
 -- Assumes nothing.
 use Prim.Native.Nat.{ℕ}
 use mathlib.Core.Path.{_≡_, refl, sym, ap, _∙_}
-use mathlib.Core.Logic.{inl}
+use mathlib.Core.Logic.{inl, inr}
 use mathlib.Core.Bool.{false}
-use mathlib.Core.List.{List, [], _∷_, _++_}
+use mathlib.Core.List.{List, [], _∷_, _++_, List·Memᴰ·head}
+use Rattle.loops.specs.Loops.{every, pick}
 use Rattle.order.specs.Vector.{zeros}
-use Rattle.paper.specs.Calls.{Call, read, write, tick, take, refresh}
-use Rattle.model.specs.Parts.{Write, Shelf, State, fresh}
+use Rattle.paper.specs.Calls.{Call, read, write, tick, take, refresh, list, first}
+use Rattle.model.specs.Parts.{Write, Shelf, State, fresh, unwritten}
 use Rattle.model.specs.Rules.{shownOf, shown, settled, settle, storing, keep}
-use Rattle.model.specs.Calls.{homeShelf, answered, made, refusal, step, ends}
+use Rattle.model.specs.Calls.{within, setup, homeShelf, answered, onPage, made, refusal, step, ends}
 use Rattle.model.specs.System.{after, run}
 use Rattle.model.specs.Demands.{MadeAt, now, earlier, Got, Past, wrote, got, kept, under}
 use Rattle.model.specs.Cases.{day}
 use Rattle.model.specs.Words.{three, threeHomes, trio, twentyWritten, thirtySent, thirtyRead, fortyRead, twenty}
+use Rattle.model.proofs.Refusals.{SetUp, set-up}
+use Rattle.model.proofs.Lists.{list-shelf}
 use Rattle.model.proofs.Demand2.{read-shelf}
 use Rattle.model.proofs.Lawful.{dominates, lawful, lawful-agrees}
 use Rattle.model.proofs.Computed.{answersNow, endsNow, ends-computed}
@@ -53,6 +56,18 @@ after-forty : run three threeHomes (write 1 2 (day 40) ∷ thirtyRead) ≡ compu
 unfolding thirtyRead thirtySent twentyWritten sentCalls after ends
 after-forty = computes (read 1 1 ∷ (write 1 2 (day 40) ∷ []))
 
+-- bearings 0 and 1 on one page
+abbrev page : Call
+page = list 1 (0 ∷ (1 ∷ []))
+
+after-page : run three threeHomes (page ∷ thirtySent) ≡ computed (page ∷ [])
+unfolding thirtySent twentyWritten sentCalls after ends
+after-page = computes (page ∷ [])
+
+set-up-three : SetUp three threeHomes
+unfolding three threeHomes setup within first pick every
+set-up-three = set-up three threeHomes refl
+
 -- the number of a call there
 abbrev numberThere : List Call → Call → ℕ
 numberThere h q = refusal three (run three threeHomes h) q
@@ -68,6 +83,10 @@ writes-thirty = refl
 reads-thirty : numberThere thirtySent (read 1 1) ≡ 0
 unfolding answersNow three threeHomes
 reads-thirty = refl
+
+lists-two : numberThere thirtySent page ≡ 0
+unfolding answersNow three threeHomes
+lists-two = refl
 
 reads-twenty : numberThere thirtyRead (read 1 0) ≡ 0
 unfolding answersNow three threeHomes
@@ -92,6 +111,17 @@ answers-twenty =
     sym (ap (λ (σ : State). σ .shelf 1 0 .store 0) after-twenty)
     ∙ ap (λ (d : ℕ). run three threeHomes (read 1 0 ∷ thirtyRead) .shelf d 0 .store 0) (sym (ap (λ (σ : State). σ .home 1) after-thirty))
     ∙ ap (λ (g : Shelf). g .store 0) (read-shelf three threeHomes thirtyRead 1 0 reads-twenty)
+
+nothing : unwritten ≡ answered three 1 0 (run three threeHomes thirtySent)
+unfolding computed answered homeShelf settled shown shownOf
+nothing = sym (ap (λ (σ : State). answered three 1 0 σ) after-sent)
+
+together : twenty .version ≡ onPage three 1 0 (run three threeHomes thirtySent)
+unfolding computed twenty onPage
+together =
+    sym (ap (λ (σ : State). σ .shelf 1 0 .store 0) after-page)
+    ∙ ap (λ (d : ℕ). run three threeHomes (page ∷ thirtySent) .shelf d 0 .store 0) (sym (ap (λ (σ : State). σ .home 1) after-sent))
+    ∙ ap (λ (g : Shelf). g .store 0) (list-shelf three threeHomes set-up-three thirtySent 1 (0 ∷ (1 ∷ [])) lists-two 0)
 
 answers-forty : forty .version ≡ answered three 2 2 (run three threeHomes (write 1 2 (day 40) ∷ thirtyRead))
 unfolding computed forty answered homeShelf settled shown shownOf
@@ -119,6 +149,14 @@ through-read = under (got (record { passed = reads-thirty; gets = inl (refl, ans
 
 pub gets-twenty : Got trio thirtyRead (read 1 0) 1 0 (twenty .version)
 gets-twenty = record { passed = reads-twenty; gets = inl (refl, answers-twenty) }
+
+-- shelf 0 is raised with shelf 1's stable vector where both are on one page
+pub reads-nothing : Got trio thirtySent (read 1 0) 1 0 unwritten
+unfolding answersNow three threeHomes
+reads-nothing = record { passed = refl; gets = inl (refl, nothing) }
+
+pub lists-twenty : Got trio thirtySent (list 1 (0 ∷ (1 ∷ []))) 1 0 (twenty .version)
+lists-twenty = record { passed = lists-two; gets = inr (_, refl, List·Memᴰ·head refl, together) }
 
 pub through-two : Past three trio fortyRead 2 twenty
 unfolding fortyRead forty

@@ -14,7 +14,7 @@ use Rattle.model.specs.Demands.{IsTake, IsRefresh, IsTick, a-take, a-ref
 use Rattle.model.specs.Cases.{counts, homes}
 use Rattle.model.specs.Words.{allRefreshed, allTicked, twice, asks, waitedOnce, waitedTwice, duo, numberAfter, Words}
 use Rattle.model.proofs.Computed.{answersNow}
-use Rattle.model.proofs.PastWorked.{through-read, gets-twenty, through-two}
+use Rattle.model.proofs.PastWorked.{through-read, gets-twenty, reads-nothing, lists-twenty, through-two}
 use Rattle.model.proofs.RoundsWorked.{taking, no-takes, Emptied, all-links, all-refreshes, all-ticks, round-of, is-f, f-rounds, not-yet, plain, no-read}
 
 -- takes, refreshes and ticks are no crew's
@@ -82,6 +82,8 @@ unfolding allTicked allRefreshed
 words = record {
   through-read = through-read;
   gets-twenty = gets-twenty;
+  reads-nothing = reads-nothing;
+  lists-twenty = lists-twenty;
   through-two = through-two;
   is-f = is-f;
   f-rounds = f-rounds;

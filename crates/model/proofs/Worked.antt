@@ -14,7 +14,7 @@ use Rattle.paper.specs.Calls.{tick, take}
 use Rattle.model.specs.Calls.{answers, step}
 use Rattle.model.specs.System.{after}
 use Rattle.model.specs.Cases.{counts, homes, listingToB, listing, listingAnswers, stableAfter, caseD, caseDAnswers}
-use Rattle.model.specs.Cases.{caseE, caseEAnswers, caseF, caseFAnswers, manyTicks, manyDone, caseG, caseGAnswers, clockAfter, caseDates, caseDatesAnswers, caseCards, caseCardsAnswers, CasesHold}
+use Rattle.model.specs.Cases.{caseE, caseEAnswers, caseF, caseFAnswers, manyTicks, manyDone, caseG, caseGAnswers, clockAfter, caseDates, caseDatesAnswers, caseCards, caseCardsAnswers, caseLists, caseListsAnswers, CasesHold}
 use Rattle.model.proofs.Lawful.{dominates, lawful, lawful-agrees, like, knowing, knowing-agrees}
 use Rattle.model.proofs.Computed.{answersNow, endsNow, answers-computed, ends-computed}
 
@@ -73,6 +73,10 @@ pub caseCards-holds : answers counts (fresh homes) caseCards ≡ caseCardsAnswer
 unfolding answersNow dominates lawful counts homes caseCards caseCardsAnswers
 caseCards-holds = answers-computed counts lawful lawful-agrees (fresh homes) caseCards ∙ refl
 
+pub caseLists-holds : answers counts (fresh homes) caseLists ≡ caseListsAnswers
+unfolding answersNow dominates lawful counts homes listingToB listing listingAnswers caseLists caseListsAnswers
+caseLists-holds = answers-computed counts lawful lawful-agrees (fresh homes) caseLists ∙ refl
+
 pub cases-hold : CasesHold
 cases-hold = record {
   listed = listing-holds;
@@ -86,4 +90,5 @@ cases-hold = record {
   g-again = caseG-again;
   dates = caseDates-holds;
   cards = caseCards-holds;
+  lists = caseLists-holds;
 }

@@ -1,11 +1,11 @@
--- The worked cases that speak of the model: the listing with (a) to (c), (d) to (g), and those of the requests on dates and on cards.
+-- The worked cases that speak of the model: the listing with (a) to (c), (d) to (g), and those of the requests on dates, cards and lists.
 -- Assumes nothing.
 use Prim.Native.Nat.{ℕ, zero, suc}
 use mathlib.Core.Path.{_≡_}
 use mathlib.Core.List.{List, [], _∷_, _++_}
 use Rattle.model.specs.Parts.{Counts, fresh}
 use Rattle.paper.specs.declared.answer.Payload.{Payload}
-use Rattle.paper.specs.Calls.{Call, read, write, tick, take, refresh, Answer, refused, done, reads, read-value, read-unwritten, current, superseded}
+use Rattle.paper.specs.Calls.{Call, read, write, tick, take, refresh, list, Answer, refused, done, reads, read-value, read-unwritten, current, superseded, listed}
 use Rattle.model.specs.Calls.{answers, ends}
 use Rattle.model.specs.System.{run}
 
@@ -140,6 +140,17 @@ caseCardsAnswers =
     ∷ (refused 4 ∷ (refused 16 ∷ (refused 14 ∷ (reads (read-value (carded 20 1157234688 1) (pair 1 0))
     ∷ [])))))))
 
+-- the request on lists: at the end of (c) crew 1 lists four bearings, one of them twice. No bearing and nine are BAD LIST, bearing 4 is BAD KEY; of crew 2, which there
+-- is none of, no bearing is BAD CREW, and of nine bearings that there are none of, BAD LIST
+unfoldable pub caseLists : List Call
+caseLists = listing ++ (list 1 (0 ∷ (1 ∷ (2 ∷ (0 ∷ [])))) ∷ (list 1 [] ∷ (list 1 (4 ∷ []) ∷ (list 2 []
+    ∷ (list 1 (9 ∷ (9 ∷ (9 ∷ (9 ∷ (9 ∷ (9 ∷ (9 ∷ (9 ∷ (9 ∷ []))))))))) ∷ [])))))
+
+unfoldable pub caseListsAnswers : List Answer
+caseListsAnswers = listingAnswers
+    ++ (listed (read-value (day 20) (pair 1 0) ∷ (read-value (day 30) (pair 2 0) ∷ (read-unwritten (pair 0 0) ∷ (read-value (day 20) (pair 1 0) ∷ []))))
+    ∷ (refused 15 ∷ (refused 4 ∷ (refused 5 ∷ (refused 15 ∷ [])))))
+
 -- what these cases come to
 pub record CasesHold : Type 0 where
   -- the listing's answers with those of (a) to (c), one list with one claim
@@ -154,3 +165,4 @@ pub record CasesHold : Type 0 where
   pub g-again : clockAfter (tick 0 0 ∷ (take 1 0 0 ∷ manyTicks 17)) ≡ 17
   pub dates : answers counts (fresh homes) caseDates ≡ caseDatesAnswers
   pub cards : answers counts (fresh homes) caseCards ≡ caseCardsAnswers
+  pub lists : answers counts (fresh homes) caseLists ≡ caseListsAnswers

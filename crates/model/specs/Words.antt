@@ -3,8 +3,8 @@
 use Prim.Native.Nat.{ℕ, _-_}
 use mathlib.Core.Path.{_≡_}
 use mathlib.Core.List.{List, [], _∷_, _++_, reverse}
-use Rattle.model.specs.Parts.{Counts, Write, fresh}
-use Rattle.paper.specs.Calls.{Call, read, write, tick, take, refresh}
+use Rattle.model.specs.Parts.{Counts, Write, fresh, unwritten}
+use Rattle.paper.specs.Calls.{Call, read, write, tick, take, refresh, list}
 use Rattle.model.specs.Calls.{made}
 use Rattle.model.specs.System.{System, after, ofModel, run}
 use Rattle.model.specs.Demands.{Silent, Got, Past, Round, Rounds, lowestClock}
@@ -91,6 +91,9 @@ pub record Words : Type 0 where
   -- 20's write is in crew 1's past through 30, which it read: so it gets 20 where it reads bearing 0
   pub through-read : Past three trio thirtyRead 1 twenty
   pub gets-twenty : Got trio thirtyRead (read 1 0) 1 0 (twenty .version)
+  -- before that, shelf 0 has not been refreshed and a read of bearing 0 alone is told unwritten; on one page with bearing 1 it is told 20
+  pub reads-nothing : Got trio thirtySent (read 1 0) 1 0 unwritten
+  pub lists-twenty : Got trio thirtySent (list 1 (0 ∷ (1 ∷ []))) 1 0 (twenty .version)
   -- and in crew 2's, through 40, whose author had it from 30's author
   pub through-two : Past three trio fortyRead 2 twenty
   -- (f) is two rounds, then two reads; after one of them depot 1 still stores 9
