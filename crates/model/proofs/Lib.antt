@@ -18,6 +18,8 @@ pub mod Lists
 pub mod Demand2
 pub mod Dated
 pub mod Limits
+pub mod Linked
+pub mod Links
 pub mod Refreshes
 pub mod Ticks
 pub mod Rounds

@@ -4,6 +4,7 @@ pub mod Calls
 pub mod System
 pub mod Demands
 pub mod Page
+pub mod Links
 pub mod Cases
 pub mod Words
 pub mod Follows

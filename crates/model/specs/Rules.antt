@@ -83,6 +83,11 @@ taking o (m ∷ l) h = record {
   untaken = put o l (h .untaken);
 }
 
+-- the copies among the messages of a link, oldest first
+unfoldable pub copies : List Message → List Write
+copies [] = []
+copies (m ∷ l) = heldOf m ++ copies l
+
 -- the messages that hold room on the link from depot o: a heartbeat until taken, a copy until taken and shown
 unfoldable pub holds : ℕ → Shelf → ℕ
 holds o h = length (h .taken o) + length (h .untaken o)

@@ -6,7 +6,7 @@ use mathlib.Core.Logic.{_⊎_}
 use mathlib.Core.List.{List, [], _∷_, List·Memᴰ}
 use Rattle.order.specs.Vector.{Vec}
 use Rattle.model.specs.Parts.{Counts, Version, Write, State, fresh}
-use Rattle.model.specs.Rules.{holds}
+use Rattle.model.specs.Rules.{copies, holds}
 use Rattle.paper.specs.declared.answer.Payload.{Payload}
 use Rattle.paper.specs.Calls.{Call, read, write, list, Answer}
 use Rattle.model.specs.Calls.{shelfOf, made, answered, onPage, refusal, step}
@@ -26,6 +26,9 @@ pub record System : Type 1 where
   pub stable : State → ℕ → ℕ → Vec
   pub seen : State → ℕ → ℕ → Vec
   pub held : State → ℕ → ℕ → ℕ → ℕ
+  -- and the copies on that link, oldest first: those taken and not yet shown, and those not yet taken
+  pub taken : State → ℕ → ℕ → ℕ → List Write
+  pub coming : State → ℕ → ℕ → ℕ → List Write
   -- of a depot and a bearing: the version that its shelf stores
   pub store : State → ℕ → ℕ → Version
   -- a call asked at a state is crew c's write w; it answers crew c, of bearing k, with the version v
@@ -51,6 +54,8 @@ ofModel π homes = record {
   stable = λ σ d s. σ .shelf d s .stable;
   seen = λ σ d s. σ .shelf d s .seen;
   held = λ σ d s o. holds o (σ .shelf d s);
+  taken = λ σ d s o. σ .shelf d s .taken o;
+  coming = λ σ d s o. copies (σ .shelf d s .untaken o);
   store = λ σ d k. σ .shelf d (shelfOf π k) .store k;
   makes = λ σ q c w. (p : Payload) × (q ≡ write c (w .bearing) p) × (w .version ≡ made π c (w .bearing) p σ);
   gets = λ σ q c k v. ((q ≡ read c k) × (v ≡ answered π c k σ)) ⊎ ((ks : List ℕ) × (q ≡ list c ks) × List·Memᴰ k ks × (v ≡ onPage π c k σ));
