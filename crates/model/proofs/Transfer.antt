@@ -6,6 +6,7 @@ use mathlib.Core.Path.{_≡_, refl, sym, _∙_, ap, ap₂, subst, subst₂}
 use mathlib.Core.Logic.{inl, inr, ⊎-elim}
 use mathlib.Core.Bool.{true}
 use mathlib.Core.List.{List, [], _∷_, _++_}
+use lib.ListN.{length}
 use Rattle.order.specs.Vector.{Vec, covered, merged}
 use Rattle.order.specs.Order.{above}
 use Rattle.order.proofs.VectorLaws.{covered-same}
@@ -16,6 +17,9 @@ use Rattle.model.specs.Calls.{told, gathered, shelfOf}
 use Rattle.model.specs.System.{System, after}
 use Rattle.model.specs.Follows.{Alike, Follows}
 use Rattle.model.specs.Page.{OnePage}
+use Rattle.model.specs.Links as links
+use Rattle.model.specs.Links.{passing, Sent, coveredAt, NothingLost}
+use Rattle.model.specs.Rules.{left}
 use Rattle.model.specs.Demands as demands
 use Rattle.model.specs.Demands.{AtLeast, Tells, Dated, Carded, Silent, Wrote, Got, MadeAt, now, earlier, Made, Past, wrote, got, kept, under}
 use Rattle.model.specs.Demands.{NotInvented, WriteAnswers, Demand2, Round, Rounds, lowestClock, Demand3, Limits, Demands}
@@ -76,6 +80,9 @@ module _ {π : Counts} {S T : System} (f : Follows π S T) where
   made-to : {h : List Call} {w : Write} → Made S h w → Made T h w
   made-to m = record { before = m .before; author = m .author; at = at-to (m .at) }
 
+  made-from : {h : List Call} {w : Write} → Made T h w → Made S h w
+  made-from m = record { before = m .before; author = m .author; at = at-from (m .at) }
+
   past-to : {h : List Call} {c : ℕ} {w : Write} → Past π S h c w → Past π T h c w
   past-to (wrote t) = wrote (wrote-to t)
   past-to (got t z) = got (got-to t) z
@@ -84,7 +91,7 @@ module _ {π : Counts} {S T : System} (f : Follows π S T) where
 
   written-from : {h : List Call} {k : ℕ} {v : Version} → NotInvented π T h k v → NotInvented π S h k v
   written-from (inl z) = inl z
-  written-from (inr m) = inr (record { before = m .before; author = m .author; at = at-from (m .at) })
+  written-from (inr m) = inr (made-from m)
 
   -- what was made lies on a bearing, and comes from a depot
   named : {h g : List Call} {c : ℕ} {w : Write} → MadeAt T h g c w → (c < π .crews) × (w .bearing < π .bearings) × (w .version .origin < π .depots)
@@ -226,6 +233,48 @@ module _ {π : Counts} {S T : System} (f : Follows π S T) where
     stores-dated = λ h d k hd hk. subst Dated (sym (alike h .store d k hd hk)) (L .stores-dated h d k hd hk);
     carded = λ h w m. L .carded h w (made-to m);
     stores-carded = λ h d k hd hk. subst Carded (sym (alike h .store d k hd hk)) (L .stores-carded h d k hd hk);
+  }
+
+  -- ---- links
+
+  sent-to : {o s : ℕ} {h : List Call} {l : List Write} → Sent π S o s h l → Sent π T o s h l
+  sent-to links.begin = links.begin
+  sent-to (links.more t w f) = links.more (sent-to t) (wrote-to w) f
+  sent-to (links.same t n) = links.same (sent-to t) (λ c w a. n c w (wrote-from a))
+
+  sent-back : {o s : ℕ} {h : List Call} {l : List Write} → Sent π T o s h l → Sent π S o s h l
+  sent-back links.begin = links.begin
+  sent-back (links.more t w f) = links.more (sent-back t) (wrote-from w) f
+  sent-back (links.same t n) = links.same (sent-back t) (λ c w a. n c w (wrote-to a))
+
+  covered-alike : (h : List Call) (d s : ℕ) → d < π .depots → s < π .shelves → coveredAt π S h d s ≡ coveredAt π T h d s
+  unfolding coveredAt
+  covered-alike h d s hd hs = λ i w. covered-same (π .depots) d (w .version .vector) _ (w .version .vector) _ (λ x hx. refl) (λ x hx. alike h .stable d s x hd hs hx) i
+
+  pub links-from : NothingLost π T → NothingLost π S
+  links-from N = record {
+    sent = λ h o s. let t = N .sent h o s in (t .0, sent-back (t .1));
+    one = λ h o s l m t u. N .one h o s l m (sent-to t) (sent-to u);
+    sent-made = λ h o s l w t i. let p = N .sent-made h o s l w (sent-to t) i in (made-from (p .0), p .1);
+    made-sent = λ h o s l w t m. N .made-sent h o s l w (sent-to t) (made-to m);
+    lossless = λ h d s o l hd hs ho n t.
+        let L = N .lossless h d s o l hd hs ho n (sent-to t) in
+        let test = sym (covered-alike h d s hd hs) in
+        let took = alike h .taken d s o hd hs ho n in
+        let comes = alike h .coming d s o hd hs ho n in
+        record {
+          taken = L .taken;
+          whole = L .whole ∙ ap (λ x. L .taken ++ x) (sym comes);
+          held = took ∙ L .held ∙ ap (λ f. left f (L .taken)) test;
+          holds = ap₂ (λ x y. x ++ y) took comes ∙ L .holds ∙ ap (λ f. left f l) test;
+          counted = L .counted ∙ (λ i. length (passing (test i) (L .taken)) + (length (sym took i) + length (sym comes i)));
+          shown = λ w i c. let m = N .sent-made h o s l w (sent-to t) i .0 in
+              subst (λ v. AtLeast (π .depots) v (w .version)) (sym (alike h .store d (w .bearing) hd (named (m .at) .1)))
+              (L .shown w i (sym (ap (λ f. f w) (sym test)) ∙ c));
+        };
+    alike = λ h b d e k hd he hk. alike h .store d k hd hk
+        ∙ N .alike h (record { taken = λ d s o hd hs ho n. sym (alike h .taken d s o hd hs ho n) ∙ b .taken d s o hd hs ho n; coming = λ d s o hd hs ho n. sym (alike h .coming d s o hd hs ho n) ∙ b .coming d s o hd hs ho n }) d e k hd he hk
+        ∙ sym (alike h .store e k he hk);
   }
 
   pub demands-from : 0 < π .shelves → Demands π T → Demands π S

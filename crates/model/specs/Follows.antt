@@ -18,6 +18,8 @@ pub record Alike (π : Counts) (S T : System) (s : S .State) (t : T .State) : Ty
   pub stable : (d r x : ℕ) → d < π .depots → r < π .shelves → x < π .depots → S .stable s d r x ≡ T .stable t d r x
   pub seen : (d r x : ℕ) → d < π .depots → r < π .shelves → x < π .depots → (x ≡ d → ⊥) → S .seen s d r x ≡ T .seen t d r x
   pub held : (d r o : ℕ) → d < π .depots → r < π .shelves → o < π .depots → (o ≡ d → ⊥) → S .held s d r o ≡ T .held t d r o
+  pub taken : (d r o : ℕ) → d < π .depots → r < π .shelves → o < π .depots → (o ≡ d → ⊥) → S .taken s d r o ≡ T .taken t d r o
+  pub coming : (d r o : ℕ) → d < π .depots → r < π .shelves → o < π .depots → (o ≡ d → ⊥) → S .coming s d r o ≡ T .coming t d r o
   pub store : (d k : ℕ) → d < π .depots → k < π .bearings → S .store s d k ≡ T .store t d k
   pub makes-to : (q : Call) (c : ℕ) (w : Write) → T .number t q ≡ 0 → S .makes s q c w → T .makes t q c w
   pub makes-from : (q : Call) (c : ℕ) (w : Write) → T .number t q ≡ 0 → T .makes t q c w → S .makes s q c w
