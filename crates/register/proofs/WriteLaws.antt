@@ -18,6 +18,10 @@ use Rattle.loops.proofs.BoolLaws.{eq-or-ne, pick-true, pick-false}
 use Rattle.book.specs.Words.{put}
 use Rattle.book.specs.Layout.{copyKind, crewAt, storedAt, countsOf, home, crewVector, stored}
 use Rattle.book.proofs.WordsLaws.{part-from}
+use Rattle.card.specs.declared.Card.{Card}
+use Rattle.card.specs.declared.CardCheck.the-variants.{Good}
+use Rattle.card.specs.Card.{cardAnswer}
+use Rattle.card.proofs.Theorems.{words-back}
 use Rattle.shelf.specs.Asks.{Ready, Free}
 use Rattle.shelf.specs.Show.{keptIn, settled}
 use Rattle.links.specs.Send.{sent, fourOf}
@@ -25,11 +29,17 @@ use Rattle.register.specs.Answers.{cut, written}
 use Rattle.paper.specs.declared.answer.Payload.{Payload}
 use Rattle.paper.specs.Calls.{Answer}
 use Rattle.register.specs.Checks.{MayWrite}
-use Rattle.register.specs.Calls.{settledHome, newStamp, withEntry, madeVector, madeRecord, writtenCrew, isCurrent, writeBook}
+use Rattle.register.specs.Calls.{settledHome, newStamp, withEntry, payloadFrom, madeVector, madeRecord, writtenCrew, isCurrent, writeBook}
 use Rattle.register.proofs.Numbers.{WriteDone, write-done}
 use Rattle.named.proofs.NamedLaws.{Based}
 use Rattle.register.proofs.FitReady.{based, ready, free}
 use Rattle.register.proofs.HomeLaws.{cut-same, four-at}
+
+-- ---- the card
+
+-- a card made of two words has these words
+pub payload-back : (p : Payload) (card : Card) → cardAnswer (p .diameter) (p .width) ≡ Good card → payloadFrom (p .value) card ≡ p
+payload-back p card e = let w = words-back (p .diameter) (p .width) card e in λ i. record { value = p .value; diameter = w .0 i; width = w .1 i }
 
 -- ---- the version
 
