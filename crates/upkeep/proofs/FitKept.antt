@@ -20,6 +20,7 @@ use Rattle.named.proofs.NamedLaws.{Based, base-open, tick-named, take-named, re
 use Rattle.named.proofs.NamedLaws.{tick-based, take-based, refresh-based, read-based, write-based}
 use Rattle.links.specs.Send.{beat, lowest, lowestSeen}
 use Rattle.shelf.proofs.FrameLaws.{pick-cases}
+use Rattle.paper.specs.declared.answer.Payload.{Payload}
 use Rattle.register.specs.Table.{shelfOf, readNumber, tickNumber, takeNumber, refreshNumber}
 use Rattle.register.specs.Calls.{settledHome, readRecord, readBook, tickBook, takeBook, refreshBook}
 use Rattle.register.proofs.FitParts.{Whole, link-open}
@@ -50,7 +51,7 @@ refresh-asked l d s t = let b = refresh-based l d s (t .fits) in (base-open l b,
 pub read-asked : (l : List ℕ) (c k : ℕ) → ReadDone l c k → Based l × (readParts (countsOf l) l c k ≡ true)
 read-asked l c k t = let b = read-based l c k (t .fits) in (base-open l b, sym (read-named l c k b (t .crew) (t .bearing)) ∙ t .fits)
 
-pub write-asked : (l : List ℕ) (c k : ℕ) {value : ℕ} → WriteDone l c k value → Based l × (writeParts (countsOf l) l c k ≡ true)
+pub write-asked : (l : List ℕ) (c k : ℕ) {payload : Payload} → WriteDone l c k payload → Based l × (writeParts (countsOf l) l c k ≡ true)
 write-asked l c k t = let b = write-based l c k (t .fits) in (base-open l b, sym (write-named l c k b (t .crew) (t .bearing)) ∙ t .fits)
 
 pub show-arrivals : (n : Counts) (l : List ℕ) (d s : ℕ) → showFit n l d s ≡ true → Arrivals n l d s

@@ -10,6 +10,7 @@ use lib.Dec.{leb, eqb}
 use borrow.Author.Tests.{leb-true, leb-false, le-leb, ltb-true, lt-ltb, eqb-true, eqb-false, eq-eqb}
 use Rattle.loops.proofs.BoolLaws.{and-left, and-right, and-intro, pick-true}
 use Rattle.loops.proofs.LoopLaws.{every-intro}
+use Rattle.paper.specs.declared.answer.Payload.{Payload}
 use Rattle.paper.specs.Calls.{Call, read, write, tick, take, refresh}
 use Rattle.book.specs.declared.parts.Counts.{Counts}
 use Rattle.book.specs.Layout.{countsOf}
@@ -81,7 +82,7 @@ parts-fit l h =
 call-keeps : (l : List ℕ) (q : Call) → numberAt l (call q) ≡ 0 → Based l × Keeps (countsOf l) l (changedBy l (call q))
 unfolding numberAt changedBy
 call-keeps l (read c k) h = (read-asked l c k (read-done l c k h) .0, read-settles l c k h .keeps)
-call-keeps l (write c k value) h = (write-asked l c k (write-done l c k value h) .0, write-settles l c k value h .keeps)
+call-keeps l (write c k payload) h = (write-asked l c k (write-done l c k payload h) .0, write-settles l c k payload h .keeps)
 call-keeps l (tick d s) h = (tick-asked l d s (tick-done l d s h) .0, tick-keeps l d s h)
 call-keeps l (take d s from) h = (take-asked l d s from (take-done l d s from h) .0, take-keeps l d s from h)
 call-keeps l (refresh d s) h = (refresh-asked l d s (refresh-done l d s h) .0, refresh-settles l d s h .keeps)
@@ -159,11 +160,11 @@ read-own l c k h =
     (λ W. or-on (leb _ c) _ λ a. or-on (leb _ k) _ λ b.
     read-kept (countsOf l) l _ W c k (t .crew) (t .bearing) (read-asked l c k t .0 .homes c (t .crew)) S) (t .fits)
 
-write-own : (l : List ℕ) (c k value : ℕ) → writeNumber l c k value ≡ 0 → writeFit (writeBook l c k value) c k ≡ true
+write-own : (l : List ℕ) (c k : ℕ) (payload : Payload) → writeNumber l c k payload ≡ 0 → writeFit (writeBook l c k payload) c k ≡ true
 unfolding writeFit
-write-own l c k value h =
-    let S = write-settles l c k value h in
-    let t = write-done l c k value h in
+write-own l c k payload h =
+    let S = write-settles l c k payload h in
+    let t = write-done l c k payload h in
     passes l _ (λ n v. leb (n .crews) c || (leb (n .bearings) k || writeParts n v c k)) (S .keeps)
     (λ W. or-on (leb _ c) _ λ a. or-on (leb _ k) _ λ b.
     write-kept (countsOf l) l _ W c k (t .crew) (t .bearing) (write-asked l c k t .0 .homes c (t .crew)) S) (t .fits)
@@ -172,7 +173,7 @@ done-own : (l : List ℕ) (r : Request) → numberAt l r ≡ 0 → fitFor (chang
 unfolding numberAt changedBy fitFor
 done-own l (setup n homes) h = eq-eqb _ _ (length-set-up n homes)
 done-own l (call (read c k)) h = read-own l c k h
-done-own l (call (write c k value)) h = write-own l c k value h
+done-own l (call (write c k payload)) h = write-own l c k payload h
 done-own l (call (tick d s)) h = tick-own l d s h
 done-own l (call (take d s from)) h = take-own l d s from h
 done-own l (call (refresh d s)) h = refresh-own l d s h

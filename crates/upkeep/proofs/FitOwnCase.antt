@@ -5,8 +5,11 @@ use mathlib.Core.Path.{_≡_, refl}
 use mathlib.Core.List.{List, _∷_, _++_}
 use mathlib.Core.Bool.{false}
 use lib.ListN.{replicate}
+use lib.Ieee.{ofBits, lt, le}
 use Rattle.loops.specs.Loops.{every, pick}
 use Rattle.order.specs.Vector.{covered, zeros}
+use Rattle.card.specs.Card.{lengthFit, cardFit}
+use Rattle.paper.specs.declared.answer.Payload.{Payload}
 use Rattle.paper.specs.Calls.{first, read, write, tick, refresh}
 use Rattle.book.specs.Words.{part}
 use Rattle.book.specs.Layout.{countsOf}
@@ -27,11 +30,15 @@ pub torn-unfit : fitPart (countsOf torn) torn (aClock 1 1) ≡ false
 unfolding torn fitPart clockFit
 torn-unfit = refl
 
+-- day 7, with a card of 1 by 1
+abbrev seven : Payload
+seven = record { value = 7; diameter = 1065353216; width = 1065353216 }
+
 -- a tick and a write there, which read and write that clock, are refused; other calls are done, a read and a refresh there among them
 pub torn-numbers :
-    (numberAt torn (call (tick 1 1)) ≡ 1) × (numberAt torn (call (write 1 1 7)) ≡ 1) × (numberAt torn (call (tick 0 0)) ≡ 0)
-    × (numberAt torn (call (read 1 1)) ≡ 0) × (numberAt torn (call (write 1 0 7)) ≡ 0) × (numberAt torn (call (refresh 1 1)) ≡ 0)
-unfolding torn between inRange othersInRange countsFit homeFit crewFit clockFit stableFit seenFit versionFit headFit messagesFit linkFit keptFit storedFit
+    (numberAt torn (call (tick 1 1)) ≡ 1) × (numberAt torn (call (write 1 1 seven)) ≡ 1) × (numberAt torn (call (tick 0 0)) ≡ 0)
+    × (numberAt torn (call (read 1 1)) ≡ 0) × (numberAt torn (call (write 1 0 seven)) ≡ 0) × (numberAt torn (call (refresh 1 1)) ≡ 0)
+unfolding torn cardFit lengthFit lt le ofBits between inRange othersInRange countsFit homeFit crewFit clockFit stableFit seenFit versionFit headFit messagesFit linkFit keptFit storedFit
     homesFit headsOutFit placesFit arrivalFit showFit tickParts refreshParts homeParts readParts writeParts baseFit tickFit refreshFit readFit writeFit
     roomy readNumber writeNumber tickNumber refreshNumber numberAt first pick every covered zeros part
 torn-numbers = (refl, refl, refl, refl, refl, refl)

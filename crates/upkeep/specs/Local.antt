@@ -8,6 +8,7 @@ use mathlib.Core.Bool.{true}
 use mathlib.Core.List.{List}
 use lib.ListN.{length, getD}
 use Rattle.order.specs.Record.{recordWords, bearingOf}
+use Rattle.paper.specs.declared.answer.Payload.{Payload}
 use Rattle.paper.specs.Calls.{Call, read, write, tick, take, refresh}
 use Rattle.book.specs.declared.parts.Counts.{Counts}
 use Rattle.book.specs.Layout.{slotWords, homeAt, crewAt, clockAt, stableAt, seenAt, linkOf, heldAt, slotAt, storedAt}
@@ -85,8 +86,8 @@ pub data WriteWord (n : Counts) (l : List ℕ) (c k j : ℕ) : Type 0 where
 pub data Named (l : List ℕ) : Request → ℕ → Type 0 where
   based : {c : Call} {j : ℕ} → BaseWord l j → Named l (call c) j
   by-read : {c k j : ℕ} → baseFit l ≡ true → c < countsOf l .crews → k < countsOf l .bearings → ReadWord (countsOf l) l c k j → Named l (call (read c k)) j
-  by-write : {c k value j : ℕ} → baseFit l ≡ true → c < countsOf l .crews → k < countsOf l .bearings → WriteWord (countsOf l) l c k j →
-      Named l (call (write c k value)) j
+  by-write : {c k j : ℕ} {payload : Payload} → baseFit l ≡ true → c < countsOf l .crews → k < countsOf l .bearings → WriteWord (countsOf l) l c k j →
+      Named l (call (write c k payload)) j
   by-tick : {d s j : ℕ} → baseFit l ≡ true → d < countsOf l .depots → s < countsOf l .shelves → TickWord (countsOf l) d s j → Named l (call (tick d s)) j
   by-take : {d s from j : ℕ} → baseFit l ≡ true → d < countsOf l .depots → from < countsOf l .depots → s < countsOf l .shelves → (d ≡ from → ⊥) →
       TakeWord l d s from j → Named l (call (take d s from)) j
@@ -129,7 +130,7 @@ pub data WroteWord (n : Counts) (l : List ℕ) (c k d s j : ℕ) : Type 0 where
 pub data Changed (l : List ℕ) : Request → ℕ → Type 0 where
   all-of-it : {n : Counts} {homes : List ℕ} {j : ℕ} → Changed l (setup n homes) j
   reading : {c k j : ℕ} → FoundWord (countsOf l) l c (home l c) (k % countsOf l .shelves) j → Changed l (call (read c k)) j
-  writing : {c k value j : ℕ} → WroteWord (countsOf l) l c k (home l c) (k % countsOf l .shelves) j → Changed l (call (write c k value)) j
+  writing : {c k j : ℕ} {payload : Payload} → WroteWord (countsOf l) l c k (home l c) (k % countsOf l .shelves) j → Changed l (call (write c k payload)) j
   ticking : {d s j : ℕ} → SentWord (countsOf l) l d s j → Changed l (call (tick d s)) j
   taking : {d s from j : ℕ} → TookWord l d s from j → Changed l (call (take d s from)) j
   refreshing : {d s j : ℕ} → SettledWord (countsOf l) l d s j → Changed l (call (refresh d s)) j

@@ -61,7 +61,7 @@ Fits l p = Named (countsOf l) p → fitPart (countsOf l) l p ≡ true
 unfoldable pub fitFor : List ℕ → Request → Bool
 fitFor l (setup n homes) = eqb (length l) bookWords
 fitFor l (call (read c k)) = readFit l c k
-fitFor l (call (write c k value)) = writeFit l c k
+fitFor l (call (write c k payload)) = writeFit l c k
 fitFor l (call (tick d s)) = tickFit l d s
 fitFor l (call (take d s from)) = takeFit l d s from
 fitFor l (call (refresh d s)) = refreshFit l d s

@@ -6,16 +6,20 @@ use book::numbers::Depot;
 use book::numbers::Shelf;
 use book::parts::Counts;
 use book::parts::wide;
+use card::card_fits;
 use order::record::BEARING;
+use order::record::DIAMETER;
 use order::record::ORIGIN;
 use order::record::RECORD_WORDS;
 use order::record::VECTOR;
+use order::record::WIDTH;
 ghost use mathlib.Core.Path.{_≡_};
 ghost use Prim.Native.Nat.{_≤_, _<_, max};
 ghost use lib.Dec.{eqb};
 ghost use lib.ListN.{length};
 ghost use Rattle.loops.specs.Loops.{pick};
-ghost use Rattle.order.specs.Record.{mostDepots, recordWords, originOf, vectorOf};
+ghost use Rattle.order.specs.Record.{mostDepots, recordWords, diameterOf, widthOf, originOf, vectorOf};
+ghost use Rattle.card.specs.Card.{cardFit};
 ghost use Rattle.book.specs.Layout.{bookWords, bearingRoom};
 ghost use Rattle.fit.specs.Fit.{carriedFit, keptFit, storedFit};
 ghost use Rattle.versions.specs.Look.{highest, entryOf};
@@ -69,6 +73,14 @@ fn look(version: &[u32], n: usize) -> Found
     }
 }
 
+// Whether a record holds a card.
+fn has_card(version: &[u32]) -> bool
+    requires { ⌜ length (now version) ≡ recordWords ⌝ }
+    ensures { λ r. ⌜ r ≡ cardFit (diameterOf (now (version .entry))) (widthOf (now (version .entry))) ⌝ }
+{
+    card_fits(version[DIAMETER], version[WIDTH])
+}
+
 // Whether a record may be carried by the link of a shelf out of a depot.
 pub fn carried_fits(version: &[u32], n: Counts, s: Shelf, from: Depot) -> bool
     requires { ⌜ (length (now version) ≡ recordWords) × (n .depots ≤ mostDepots) × (0 < n .shelves) ⌝ }
@@ -79,6 +91,9 @@ pub fn carried_fits(version: &[u32], n: Counts, s: Shelf, from: Depot) -> bool
         return false;
     }
     if found.stamp == 0 {
+        return false;
+    }
+    if !has_card(version) {
         return false;
     }
     if found.origin != from.index() {
@@ -104,6 +119,9 @@ fn kept_fits(version: &[u32], n: Counts, k: Bearing) -> bool
         return false;
     }
     if found.stamp == 0 {
+        return false;
+    }
+    if !has_card(version) {
         return false;
     }
     wide(version[BEARING]) == k.index()
