@@ -192,6 +192,14 @@ module _ (π : Counts) where
             (or-cases (eqb d (σ .home c)) (arrived π d (σ .crew c) σ) (not-none _ (t .0)));
       }
 
+  -- who is not here yet is a crew, and asks for a depot
+  pub move-named : (σ : State) (c d : ℕ) → refusal π σ (move c d) ≡ 12 → (c < π .crews) × (d < π .depots)
+  unfolding refusal
+  move-named σ c d e =
+      let a = first-skips (leb (π .crews) c) 5 12 _ e (λ n. omega arith) in
+      let b = first-skips (leb (π .depots) d) 2 12 _ (a .1) (λ n. omega arith) in
+      (leb-false _ _ (a .0), leb-false _ _ (b .0))
+
   pub record ListPassed (c : ℕ) (ks : List ℕ) : Type 0 where
     pub crew : c < π .crews
     pub counted : within (length ks) mostListed ≡ true

@@ -3,9 +3,11 @@ pub mod Rules
 pub mod Calls
 pub mod System
 pub mod Demands
+pub mod Moves
 pub mod Page
 pub mod Links
 pub mod Cases
 pub mod Words
+pub mod MoveCase
 pub mod Follows
 pub mod Everywhere
