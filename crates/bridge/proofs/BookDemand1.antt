@@ -43,7 +43,7 @@ module _ (π : model.Counts) where
   acted-home : (σ : State) (q : Call) → acted π σ q .state .home ≡ σ .home
   unfolding acted reading rules.send rules.emit rules.settle rules.keep model.setShelf model.setCrew
   acted-home σ (read c k) = refl
-  acted-home σ (write c k value) = refl
+  acted-home σ (write c k payload) = refl
   acted-home σ (tick d s) = refl
   acted-home σ (take d s from) = refl
   acted-home σ (refresh d s) = refl
