@@ -135,13 +135,21 @@ fn case_f(book: &mut [u32], out: &mut [u8]) -> bool
         out,
         b"T 0 0 1\n0\nT 0 0 1\n7\nT 0 1 1\n7\nT 1 0 0\n0\nT 1 0 0\n7\nT 1 1 0\n7\n",
     );
-    let hidden = runs(book, out, b"R 0 0\n0 7 1065353216 1065353216 1 0\nR 1 0\n0 9 1065353216 1065353216 0 1\n");
+    let hidden = runs(
+        book,
+        out,
+        b"R 0 0\n0 7 1065353216 1065353216 1 0\nR 1 0\n0 9 1065353216 1065353216 0 1\n",
+    );
     let second = round(
         book,
         out,
         b"T 0 0 1\n0\nT 0 0 1\n7\nT 0 1 1\n0\nT 0 1 1\n7\nT 1 0 0\n0\nT 1 0 0\n7\nT 1 1 0\n0\nT 1 1 0\n7\n",
     );
-    let read = runs(book, out, b"R 0 0\n0 7 1065353216 1065353216 1 0\nR 1 0\n0 7 1065353216 1065353216 1 0\n");
+    let read = runs(
+        book,
+        out,
+        b"R 0 0\n0 7 1065353216 1065353216 1 0\nR 1 0\n0 7 1065353216 1065353216 1 0\n",
+    );
     written && first && hidden && second && read
 }
 
@@ -177,7 +185,11 @@ fn case_h(book: &mut [u32], out: &mut [u8]) -> bool
     let fresh = runs(book, out, b"S 2 2 4 2 0 1\n0\n");
     set_clock(book, Depot::nth(0, 2), Shelf::nth(0, 2), 2147483646);
     let fit = is_fit(book);
-    let ended = runs(book, out, b"K 0 0\n0\nK 0 0\n10\nW 0 0 5 1065353216 1065353216\n10\n");
+    let ended = runs(
+        book,
+        out,
+        b"K 0 0\n0\nK 0 0\n10\nW 0 0 5 1065353216 1065353216\n10\n",
+    );
     fresh && fit && ended && is_clock(book, 2147483647)
 }
 
@@ -221,7 +233,11 @@ fn case_j(book: &mut [u32], out: &mut [u8]) -> bool
 fn case_k(book: &mut [u32], out: &mut [u8]) -> bool
     requires { ⌜ answerRoom ≤ length (now out) ⌝ }
 {
-    let fresh = runs(book, out, b"S 2 1 4 2 0 1\n0\nW 0 0 7 1065353216 1065353216\n0 1 C\n");
+    let fresh = runs(
+        book,
+        out,
+        b"S 2 1 4 2 0 1\n0\nW 0 0 7 1065353216 1065353216\n0 1 C\n",
+    );
     let ticked = repeated(book, out, b"K 1 0\n0\n", 4);
     let written = runs(book, out, b"W 1 0 9 1065353216 1065353216\n0 5 C\n");
     let taken = repeated(book, out, b"T 0 0 1\n0\n", 5);
@@ -242,9 +258,17 @@ fn case_l(book: &mut [u32], out: &mut [u8]) -> bool
         out,
         b"S 2 1 4 2 0 1\n0\nW 0 0 7 1065353216 1065353216\n0 1 C\nT 1 0 0\n0\nF 1 0\n0\nR 1 0\n0 7 1065353216 1065353216 1 0\n",
     );
-    let written = runs(book, out, b"W 0 0 8 1065353216 1065353216\n0 2 C\nW 1 0 9 1065353216 1065353216\n0 1 C\n");
+    let written = runs(
+        book,
+        out,
+        b"W 0 0 8 1065353216 1065353216\n0 2 C\nW 1 0 9 1065353216 1065353216\n0 1 C\n",
+    );
     let taken = runs(book, out, b"T 0 0 1\n0\nF 0 0\n0\nT 1 0 0\n0\nF 1 0\n0\n");
-    let read = runs(book, out, b"R 0 0\n0 8 1065353216 1065353216 2 0\nR 1 0\n0 8 1065353216 1065353216 2 0\n");
+    let read = runs(
+        book,
+        out,
+        b"R 0 0\n0 8 1065353216 1065353216 2 0\nR 1 0\n0 8 1065353216 1065353216 2 0\n",
+    );
     fresh && written && taken && read
 }
 
