@@ -117,6 +117,9 @@ pub fn messages_fit(
     if !copies_fit(book, n, s, from, q, taken) {
         return false;
     }
+    if taken == count {
+        return true;
+    }
     waiting_fit(book, n, s, from, q, taken, count - taken)
 }
 
