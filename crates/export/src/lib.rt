@@ -4,18 +4,24 @@ pub mod out;
 
 use crate::out::fill;
 use book::parts::wide;
-use calls::perform::perform;
+use calls::reply::answered;
+use calls::reply::found;
+use calls::reply::wrote;
 use events::answer::answer_line;
 use order::record::MOST_DEPOTS;
 use order::record::exceeds;
 use paper::answer::Outcome;
 use paper::answer::Reply;
 use paper::number::number_in;
-use paper::request::Request;
+use read::read;
+use refresh::refresh;
 use reply::ANSWER_ROOM;
+use setup::setup;
+use take::take;
+use tick::tick;
 use whole::is_fit;
+use write::write;
 ghost use mathlib.Core.Path.{_≡_};
-ghost use mathlib.Core.List.{[]};
 ghost use lib.Dec.{leb};
 ghost use lib.ListN.{length};
 ghost use lib.Seq.{sets};
@@ -24,20 +30,10 @@ ghost use Rattle.fit.specs.Fit.{fit};
 ghost use Rattle.paper.specs.Calls.{read, write, tick, take, refresh};
 ghost use Rattle.paper.specs.Answers.{onPaper, Holds};
 ghost use Rattle.upkeep.specs.Requests.{setup, call, numberAt, replyTo, bookAfter};
-ghost use Rattle.calls.specs.Performed.{asked};
 ghost use Rattle.reply.specs.Printed.{answerRoom};
 ghost use Rattle.events.specs.Answering as events;
 ghost use Rattle.events.specs.Answering.{answerTo};
 ghost use Rattle.export.specs.Numbers.{filled, wordsOf, greaterNumber};
-
-// A request is performed; the number of its reply comes back.
-fn ask(book: &mut [u32], request: Request, homes: &[u32]) -> u32
-    ensures { λ r. ⌜ r ≡ numberAt (now (book .entry)) (asked request (now (homes .entry))) ⌝ }
-    ensures { λ r. ⌜ now (book .exit) ≡ bookAfter (now (book .entry)) (asked request (now (homes .entry))) ⌝ }
-{
-    let reply = perform(book, request, homes);
-    number_in(reply)
-}
 
 // What a reply tells stands in `out`.
 fn tell(out: &mut [u32], reply: Reply)
@@ -56,18 +52,6 @@ fn tell(out: &mut [u32], reply: Reply)
     }
 }
 
-// A read or a write is performed; what the reply tells stands in `out`, and its number comes back.
-fn ask_telling(book: &mut [u32], request: Request, out: &mut [u32]) -> u32
-    ensures { λ r. ⌜ r ≡ numberAt (now (book .entry)) (asked request []) ⌝ }
-    ensures { λ r. ⌜ now (book .exit) ≡ bookAfter (now (book .entry)) (asked request []) ⌝ }
-    ensures { λ r. ⌜ now (out .exit) ≡ filled (wordsOf (replyTo (now (book .entry)) (asked request []))) (now (out .entry)) ⌝ }
-{
-    let homes = [0u32; 0];
-    let reply = perform(book, request, &homes);
-    tell(out, reply);
-    number_in(reply)
-}
-
 #[no_mangle]
 pub extern "C" fn depot_setup(
     book: &mut [u32],
@@ -80,13 +64,8 @@ pub extern "C" fn depot_setup(
     ensures { λ r. ⌜ r ≡ numberAt (now (book .entry)) (setup (record { depots = depots; shelves = shelves; bearings = bearings; crews = crews }) (now (homes .entry))) ⌝ }
     ensures { λ r. ⌜ now (book .exit) ≡ bookAfter (now (book .entry)) (setup (record { depots = depots; shelves = shelves; bearings = bearings; crews = crews }) (now (homes .entry))) ⌝ }
 {
-    let request = Request::Setup {
-        depots,
-        shelves,
-        bearings,
-        crews,
-    };
-    ask(book, request, homes)
+    let reply = answered(setup(book, depots, shelves, bearings, crews, homes));
+    number_in(reply)
 }
 
 #[no_mangle]
@@ -94,8 +73,8 @@ pub extern "C" fn depot_tick(book: &mut [u32], depot: u32, shelf: u32) -> u32
     ensures { λ r. ⌜ r ≡ numberAt (now (book .entry)) (call (tick depot shelf)) ⌝ }
     ensures { λ r. ⌜ now (book .exit) ≡ bookAfter (now (book .entry)) (call (tick depot shelf)) ⌝ }
 {
-    let request = Request::Tick { depot, shelf };
-    ask(book, request, &[0u32; 0])
+    let reply = answered(tick(book, depot, shelf));
+    number_in(reply)
 }
 
 #[no_mangle]
@@ -103,8 +82,8 @@ pub extern "C" fn depot_take(book: &mut [u32], depot: u32, shelf: u32, from: u32
     ensures { λ r. ⌜ r ≡ numberAt (now (book .entry)) (call (take depot shelf from)) ⌝ }
     ensures { λ r. ⌜ now (book .exit) ≡ bookAfter (now (book .entry)) (call (take depot shelf from)) ⌝ }
 {
-    let request = Request::Take { depot, shelf, from };
-    ask(book, request, &[0u32; 0])
+    let reply = answered(take(book, depot, shelf, from));
+    number_in(reply)
 }
 
 #[no_mangle]
@@ -112,8 +91,8 @@ pub extern "C" fn depot_refresh(book: &mut [u32], depot: u32, shelf: u32) -> u32
     ensures { λ r. ⌜ r ≡ numberAt (now (book .entry)) (call (refresh depot shelf)) ⌝ }
     ensures { λ r. ⌜ now (book .exit) ≡ bookAfter (now (book .entry)) (call (refresh depot shelf)) ⌝ }
 {
-    let request = Request::Refresh { depot, shelf };
-    ask(book, request, &[0u32; 0])
+    let reply = answered(refresh(book, depot, shelf));
+    number_in(reply)
 }
 
 #[no_mangle]
@@ -122,8 +101,9 @@ pub extern "C" fn depot_read(book: &mut [u32], crew: u32, bearing: u32, out: &mu
     ensures { λ r. ⌜ now (book .exit) ≡ bookAfter (now (book .entry)) (call (read crew bearing)) ⌝ }
     ensures { λ r. ⌜ now (out .exit) ≡ filled (wordsOf (replyTo (now (book .entry)) (call (read crew bearing)))) (now (out .entry)) ⌝ }
 {
-    let request = Request::Read { crew, bearing };
-    ask_telling(book, request, out)
+    let reply = found(read(book, crew, bearing));
+    tell(out, reply);
+    number_in(reply)
 }
 
 #[no_mangle]
@@ -138,12 +118,9 @@ pub extern "C" fn depot_write(
     ensures { λ r. ⌜ now (book .exit) ≡ bookAfter (now (book .entry)) (call (write crew bearing value)) ⌝ }
     ensures { λ r. ⌜ now (out .exit) ≡ filled (wordsOf (replyTo (now (book .entry)) (call (write crew bearing value)))) (now (out .entry)) ⌝ }
 {
-    let request = Request::Write {
-        crew,
-        bearing,
-        value,
-    };
-    ask_telling(book, request, out)
+    let reply = wrote(write(book, crew, bearing, value));
+    tell(out, reply);
+    number_in(reply)
 }
 
 #[no_mangle]

@@ -303,7 +303,7 @@ mod tests {
             let book = book(&mut random, kind);
             let mut messages = Vec::new();
             for piece in pieces(Counts::of(&book)) {
-                if let Piece::Messages { shelf, from, to } = piece {
+                if let Piece::Head { shelf, from, to } = piece {
                     let link = link(shelf, from, to);
                     let place = |place| (place < book[taken(link)] as usize, book[slot(link, place)]);
                     messages.extend((0..book[held(link)] as usize).map(place));

@@ -60,12 +60,14 @@ fn links_are_fit(book: &[u32], n: Counts, shelf: usize) -> bool {
 
 /// A link's head and its messages.
 pub(crate) fn link_is_fit(book: &[u32], n: Counts, shelf: usize, from: usize, to: usize) -> bool {
-    if !head_is_fit(book, shelf, from, to) {
-        return false;
-    }
+    head_is_fit(book, shelf, from, to) && messages_are_fit(book, n, shelf, from, to, 0)
+}
+
+/// The messages, from place `first` on, of a link whose head is fit.
+pub(crate) fn messages_are_fit(book: &[u32], n: Counts, shelf: usize, from: usize, to: usize, first: usize) -> bool {
     let link = link(shelf, from, to);
     let (held, taken) = (book[held(link)] as usize, book[taken(link)] as usize);
-    (0..held).all(|place| {
+    (first..held).all(|place| {
         let message = &book[slot(link, place)..][..SLOT];
         match message[0] {
             COPY => copy_is_fit(&message[1..], n, shelf, from),

@@ -9,9 +9,11 @@ pub fn tick(book: &[u32], n: Counts, depot: usize, shelf: usize) -> bool {
     clock_is_fit(book, depot, shelf) && (0..n.depots).all(|to| to == depot || head_is_fit(book, shelf, depot, to))
 }
 
-/// The stamp seen from the sender; the link from there, head and messages.
+/// The stamp seen from the sender; the head of the link from there, and of its messages the untaken ones.
 pub fn take(book: &[u32], n: Counts, depot: usize, shelf: usize, from: usize) -> bool {
-    seen_is_fit(book, depot, shelf, from) && link_is_fit(book, n, shelf, from, depot)
+    seen_is_fit(book, depot, shelf, from)
+        && head_is_fit(book, shelf, from, depot)
+        && messages_are_fit(book, n, shelf, from, depot, book[taken(link(shelf, from, depot))] as usize)
 }
 
 /// The stamps seen on all shelves of the depot; what raise and show touches.

@@ -103,7 +103,10 @@ fn links() {
     }
     assert_eq!(bad_for(held(link(1, 0, 1)), UNFIT), "", "the link of the other shelf");
     assert_eq!(bad_for(held(link(0, 1, 1)), UNFIT), "", "the link of a depot to itself");
-    for place in 0..3 {
+    assert_eq!(bad_for(slot(from_0, 0), 3), "read write refresh", "a taken copy is no part of a take");
+    assert_eq!(bad_for(slot(from_0, 0) + 1 + BEARING, 5), "read write refresh", "nor is its bearing");
+    assert_eq!(bad_for(slot(from_0, 0) + 1 + VECTOR, UNFIT), "read write refresh", "nor its vector");
+    for place in 1..3 {
         assert_eq!(bad_for(slot(from_0, place), 3), "read write take refresh");
     }
     assert_eq!(bad_for(slot(to_0, 0), 3), "", "a message on a link out");
@@ -111,6 +114,32 @@ fn links() {
     assert_eq!(bad_for(slot(from_0, 2) + 1, UNFIT), "read write take refresh", "the stamp of a heartbeat");
     assert_eq!(bad_for(slot(from_0, 3), 3), "", "past the messages held");
     assert_eq!(bad_for(slot(link(0, 2, 0), 0), 3), "");
+}
+
+/// Of a link's messages a take looks at the untaken ones alone, whether it takes a copy or a heartbeat, or finds none.
+#[test]
+fn a_take_leaves_taken_copies_alone() {
+    let link = link(0, 0, 1);
+    let mut book = busy();
+    let whole = slot(link, 0)..slot(link, 1);
+    book[whole.clone()].fill(UNFIT);
+    assert_eq!(TAKE(&mut book), Ok(()), "a copy");
+    assert_eq!(book[held(link)..][..2], [3, 2]);
+    book[slot(link, 1)..slot(link, 2)].fill(UNFIT);
+    assert_eq!(TAKE(&mut book), Ok(()), "a heartbeat");
+    assert_eq!(book[held(link)..][..2], [2, 2]);
+    assert_eq!(book[seen(1, 0, 0)], 4);
+    assert_eq!(TAKE(&mut book), Err(Refusal::EmptyLink), "and not BAD BOOK");
+    assert!(book[whole].iter().all(|&word| word == UNFIT), "and they stay as they are");
+    assert!(book[slot(link, 2)..slot(link, 3)].iter().all(|&word| word == 0));
+    assert_eq!(REFRESH(&mut book), Err(Refusal::BadBook), "a refresh looks at them");
+
+    let mut book = busy();
+    book[slot(link, 2)] = COPY;
+    assert_eq!(TAKE(&mut book), Err(Refusal::BadBook), "an untaken message behind the first");
+    let mut book = busy();
+    book[taken(link)] = 3;
+    assert_eq!(TAKE(&mut book), Err(Refusal::EmptyLink), "a taken heartbeat is none of the untaken");
 }
 
 #[test]

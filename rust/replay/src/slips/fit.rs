@@ -47,9 +47,9 @@ impl Slipped {
                 let most = if self.has(Slip::FitSeventeen) { ROOM + 1 } else { ROOM };
                 held <= most && (taken <= held || self.has(Slip::HeldOnly))
             }
-            Piece::Messages { shelf, from, to } => {
-                let count = book[held(link(shelf, from, to))].min(ROOM + u32::from(self.has(Slip::FitSeventeen)));
-                (0..count as usize).all(|place| self.message_fit(book, n, shelf, from, to, place))
+            Piece::Taken { shelf, from, to } | Piece::Untaken { shelf, from, to } => {
+                let mut places = piece.places(book, ROOM + u32::from(self.has(Slip::FitSeventeen)));
+                places.all(|place| self.message_fit(book, n, shelf, from, to, place))
             }
             Piece::Stored { depot, bearing } => self.stored(book, n, depot, bearing),
         }
