@@ -1,5 +1,6 @@
 //! What is fit, part by part, as `docs/LAYOUT.md` lists the parts. The whole book is fit if every part is.
 
+use crate::card::is_card;
 use crate::layout::*;
 
 /// Whether a book is fit. One of all zeros is not.
@@ -91,6 +92,7 @@ fn copy_is_fit(record: &[u32], n: Counts, shelf: usize, from: usize) -> bool {
         && bearing % n.shelves == shelf
         && entries_are_fit(record, n, VECTOR)
         && record[VECTOR + from] > 0
+        && is_card(record[DIAMETER], record[WIDTH])
 }
 
 pub(crate) fn stored_is_fit(book: &[u32], n: Counts, depot: usize, bearing: usize) -> bool {
@@ -101,7 +103,8 @@ pub(crate) fn stored_is_fit(book: &[u32], n: Counts, depot: usize, bearing: usiz
         || (record[BEARING] as usize == bearing
             && origin < n.depots
             && entries_are_fit(record, n, VECTOR)
-            && record[VECTOR + origin] > 0)
+            && record[VECTOR + origin] > 0
+            && is_card(record[DIAMETER], record[WIDTH]))
 }
 
 /// Whether the vector that starts at `at` is in range.

@@ -2,10 +2,17 @@
 
 use straight::calendar::LAST_DAY;
 use straight::layout::*;
-use straight::{is_fit, read, refresh, setup, take, tick, write, Refusal, WORDS};
+use straight::{is_fit, read, refresh, setup, take, tick, Refusal, Written, WORDS};
 
 /// No word of a book can be this, but a value or an unused one.
 const UNFIT: u32 = u32::MAX;
+
+/// The bits of 1 millimetre, both lengths of every card here.
+const ONE: u32 = 1_065_353_216;
+
+fn write(book: &mut [u32], crew: u32, bearing: u32, value: u32) -> Result<Written, Refusal> {
+    straight::write(book, crew, bearing, value, ONE, ONE)
+}
 
 type Call = fn(&mut [u32]) -> Result<(), Refusal>;
 
@@ -150,6 +157,22 @@ fn stored_versions() {
     }
 }
 
+/// The card of a message or a stored version is a part of it; an unwritten record has none.
+#[test]
+fn cards() {
+    let from_0 = link(0, 0, 1);
+    for at in [DIAMETER, WIDTH] {
+        for word in [0, UNFIT] {
+            assert_eq!(bad_for(slot(from_0, 0) + 1 + at, word), "read write refresh", "a taken copy");
+            assert_eq!(bad_for(slot(from_0, 1) + 1 + at, word), "read write take refresh", "an untaken copy");
+            assert_eq!(bad_for(slot(link(0, 1, 0), 0) + 1 + at, word), "", "a message on a link out");
+            assert_eq!(bad_for(stored(1, 2) + at, word), "read write", "bearing 2 at depot 1, written");
+            assert_eq!(bad_for(stored(1, 0) + at, word), "", "bearing 0 at depot 1, unwritten");
+            assert_eq!(bad_for(stored(0, 0) + at, word), "", "bearing 0 at depot 0, written");
+        }
+    }
+}
+
 #[test]
 fn a_number_out_of_range_names_no_part() {
     let mut book = busy();
@@ -161,6 +184,7 @@ fn a_number_out_of_range_names_no_part() {
     assert_eq!(write(&mut book, 3, 6, 0).map(|_| ()), Err(Refusal::BadCrew));
     assert_eq!(write(&mut book, 0, 6, 0).map(|_| ()), Err(Refusal::BadKey));
     assert_eq!(write(&mut book, 0, 6, u32::MAX).map(|_| ()), Err(Refusal::BadKey));
+    assert_eq!(straight::write(&mut book, 0, 6, 0, 0, 0).map(|_| ()), Err(Refusal::BadKey));
     assert_eq!(tick(&mut book, 3, 2), Err(Refusal::BadDepot));
     assert_eq!(tick(&mut book, 0, 2), Err(Refusal::BadShelf));
     assert_eq!(take(&mut book, 0, 2, 3), Err(Refusal::BadDepot));
@@ -188,6 +212,7 @@ fn bad_book_goes_before_the_refusals_of_a_state() {
     book[stored(1, 0) + VECTOR] = UNFIT;
     assert_eq!(WRITE(&mut book), Err(Refusal::BadBook), "and not WAIT");
     assert_eq!(write(&mut book, 1, 2, LAST_DAY + 1).map(|_| ()), Err(Refusal::BadBook), "and not BAD DATE");
+    assert_eq!(straight::write(&mut book, 1, 2, 0, 0, 0).map(|_| ()), Err(Refusal::BadBook), "and not BAD CARD");
     let mut book = busy();
     book[seen(0, 1, 1)] = UNFIT;
     assert_eq!(take(&mut book, 0, 1, 1), Err(Refusal::BadBook), "and not EMPTY LINK");
