@@ -167,7 +167,7 @@ impl Piece {
         }
     }
 
-    /// All words of it, those included that only travel along: spare words, entries past the depots.
+    /// All words of it, those included that only travel along: entries past the depots.
     pub fn words(self, book: &[u32], n: Counts) -> Vec<usize> {
         match self {
             Piece::Taken { shelf, from, to } | Piece::Untaken { shelf, from, to } => {
@@ -212,7 +212,7 @@ fn message_used(book: &[u32], n: Counts, message: usize) -> Vec<usize> {
 
 fn record_used(n: Counts, record: usize) -> Vec<usize> {
     let vector = record + VECTOR..record + VECTOR + n.depots;
-    [record + BEARING, record + VALUE, record + ORIGIN].into_iter().chain(vector).collect()
+    [record + BEARING, record + VALUE, record + DIAMETER, record + WIDTH, record + ORIGIN].into_iter().chain(vector).collect()
 }
 
 /// What a call names, its numbers in range.

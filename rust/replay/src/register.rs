@@ -4,17 +4,18 @@
 pub trait Register {
     fn setup(&self, book: &mut [u32], counts: [u32; 4], homes: &[u32]) -> u32;
     fn read(&self, book: &mut [u32], crew: u32, bearing: u32, out: &mut [u32]) -> u32;
-    fn write(&self, book: &mut [u32], crew: u32, bearing: u32, value: u32, out: &mut [u32]) -> u32;
+    fn write(&self, book: &mut [u32], crew: u32, bearing: u32, value: u32, card: [u32; 2], out: &mut [u32]) -> u32;
     fn tick(&self, book: &mut [u32], depot: u32, shelf: u32) -> u32;
     fn take(&self, book: &mut [u32], depot: u32, shelf: u32, from: u32) -> u32;
     fn refresh(&self, book: &mut [u32], depot: u32, shelf: u32) -> u32;
     fn is_fit(&self, book: &[u32]) -> u32;
     fn greater(&self, a: &[u32], b: &[u32], depots: u32) -> u32;
+    fn grams(&self, card: [u32; 2], out: &mut [u32]) -> u32;
     fn line(&self, book: &mut [u32], line: &[u8], out: &mut [u8]) -> usize;
 }
 
 /// The room that every answer line has.
-pub const ANSWER_BYTES: usize = 64;
+pub const ANSWER_BYTES: usize = 80;
 
 /// The straight version.
 pub struct Straight;
@@ -27,10 +28,12 @@ pub fn number(answer: Result<(), straight::Refusal>) -> u32 {
 /// The number of a read's answer, and the rest of it in `out`.
 pub fn read_answer(answer: Result<straight::Reading, straight::Refusal>, out: &mut [u32]) -> u32 {
     number(answer.map(|reading| {
-        if out.len() >= 6 {
+        if out.len() >= 8 {
             out[0] = reading.value.is_some() as u32;
             out[1] = reading.value.unwrap_or(0);
-            out[2..6].copy_from_slice(&reading.vector);
+            out[2] = reading.diameter;
+            out[3] = reading.width;
+            out[4..8].copy_from_slice(&reading.vector);
         }
     }))
 }
@@ -45,6 +48,17 @@ pub fn write_answer(answer: Result<straight::Written, straight::Refusal>, out: &
     }))
 }
 
+/// The number of the grams' answer, and their bits in `out`, the low word first.
+pub fn grams_answer(answer: Result<f64, straight::Refusal>, out: &mut [u32]) -> u32 {
+    number(answer.map(|grams| {
+        if out.len() >= 2 {
+            let bits = grams.to_bits();
+            out[0] = bits as u32;
+            out[1] = (bits >> 32) as u32;
+        }
+    }))
+}
+
 impl Register for Straight {
     fn setup(&self, book: &mut [u32], counts: [u32; 4], homes: &[u32]) -> u32 {
         let [depots, shelves, bearings, crews] = counts;
@@ -55,8 +69,8 @@ impl Register for Straight {
         read_answer(straight::read(book, crew, bearing), out)
     }
 
-    fn write(&self, book: &mut [u32], crew: u32, bearing: u32, value: u32, out: &mut [u32]) -> u32 {
-        write_answer(straight::write(book, crew, bearing, value), out)
+    fn write(&self, book: &mut [u32], crew: u32, bearing: u32, value: u32, card: [u32; 2], out: &mut [u32]) -> u32 {
+        write_answer(straight::write(book, crew, bearing, value, card[0], card[1]), out)
     }
 
     fn tick(&self, book: &mut [u32], depot: u32, shelf: u32) -> u32 {
@@ -77,6 +91,10 @@ impl Register for Straight {
 
     fn greater(&self, a: &[u32], b: &[u32], depots: u32) -> u32 {
         straight::above(b, a, depots as usize) as u32
+    }
+
+    fn grams(&self, card: [u32; 2], out: &mut [u32]) -> u32 {
+        grams_answer(straight::grams(card[0], card[1]), out)
     }
 
     fn line(&self, book: &mut [u32], line: &[u8], out: &mut [u8]) -> usize {
@@ -104,8 +122,8 @@ impl Register for Library {
         depot_register::raw::read(book, crew, bearing, out)
     }
 
-    fn write(&self, book: &mut [u32], crew: u32, bearing: u32, value: u32, out: &mut [u32]) -> u32 {
-        depot_register::raw::write(book, crew, bearing, value, out)
+    fn write(&self, book: &mut [u32], crew: u32, bearing: u32, value: u32, card: [u32; 2], out: &mut [u32]) -> u32 {
+        depot_register::raw::write(book, crew, bearing, value, card[0], card[1], out)
     }
 
     fn tick(&self, book: &mut [u32], depot: u32, shelf: u32) -> u32 {
@@ -126,6 +144,10 @@ impl Register for Library {
 
     fn greater(&self, a: &[u32], b: &[u32], depots: u32) -> u32 {
         depot_register::raw::greater(a, b, depots)
+    }
+
+    fn grams(&self, card: [u32; 2], out: &mut [u32]) -> u32 {
+        depot_register::raw::grams(card[0], card[1], out)
     }
 
     fn line(&self, book: &mut [u32], line: &[u8], out: &mut [u8]) -> usize {
