@@ -8,7 +8,7 @@ use calendar::dates::day_number;
 use calendar::dates::next_date;
 use room::NO_ROOM;
 ghost use mathlib.Core.Path.{_≡_};
-ghost use Rattle.calendar.specs.Dates.{numberAnswer, dateAnswer};
+ghost use Rattle.calendar.specs.Dates.{dayNumberAnswer, dateAnswer};
 ghost use Rattle.calendar.specs.Next.{nextAnswer};
 ghost use Rattle.room.specs.Room.{noRoom, inRoom};
 ghost use Rattle.dates.specs.Told.{numberWords, dateWords, nextWords, dateNumber, numberOut, dateOut, nextOut};
@@ -22,8 +22,8 @@ const NEXT_WORDS: usize = 4;
 
 // The day number of a date.
 pub fn tell_number(year: u32, month: u32, day: u32, out: &mut [u32]) -> u32
-    ensures { λ r. ⌜ r ≡ inRoom numberWords (now (out .entry)) (dateNumber (numberAnswer year month day)) noRoom ⌝ }
-    ensures { λ r. ⌜ now (out .exit) ≡ inRoom numberWords (now (out .entry)) (numberOut (numberAnswer year month day) (now (out .entry))) (now (out .entry)) ⌝ }
+    ensures { λ r. ⌜ r ≡ inRoom numberWords (now (out .entry)) (dateNumber (dayNumberAnswer year month day)) noRoom ⌝ }
+    ensures { λ r. ⌜ now (out .exit) ≡ inRoom numberWords (now (out .entry)) (numberOut (dayNumberAnswer year month day) (now (out .entry))) (now (out .entry)) ⌝ }
 {
     if out.len() < NUMBER_WORDS {
         return NO_ROOM;

@@ -5,7 +5,7 @@ use dates::tell_next;
 use dates::tell_number;
 ghost use mathlib.Core.Path.{_≡_};
 ghost use Rattle.loops.specs.Loops.{pick};
-ghost use Rattle.calendar.specs.Dates.{isDate, numberAnswer, dateAnswer};
+ghost use Rattle.calendar.specs.Dates.{isDate, dayNumberAnswer, dateAnswer};
 ghost use Rattle.calendar.specs.Next.{nextAnswer};
 ghost use Rattle.room.specs.Room.{noRoom, inRoom};
 ghost use Rattle.dates.specs.Told.{numberWords, dateWords, nextWords, dateNumber, numberOut, dateOut, nextOut};
@@ -22,8 +22,8 @@ pub extern "C" fn depot_is_date(year: u32, month: u32, day: u32) -> u32
 
 #[no_mangle]
 pub extern "C" fn depot_day_number(year: u32, month: u32, day: u32, out: &mut [u32]) -> u32
-    ensures { λ r. ⌜ r ≡ inRoom numberWords (now (out .entry)) (dateNumber (numberAnswer year month day)) noRoom ⌝ }
-    ensures { λ r. ⌜ now (out .exit) ≡ inRoom numberWords (now (out .entry)) (numberOut (numberAnswer year month day) (now (out .entry))) (now (out .entry)) ⌝ }
+    ensures { λ r. ⌜ r ≡ inRoom numberWords (now (out .entry)) (dateNumber (dayNumberAnswer year month day)) noRoom ⌝ }
+    ensures { λ r. ⌜ now (out .exit) ≡ inRoom numberWords (now (out .entry)) (numberOut (dayNumberAnswer year month day) (now (out .entry))) (now (out .entry)) ⌝ }
 {
     tell_number(year, month, day, out)
 }

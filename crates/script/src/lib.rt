@@ -4,11 +4,9 @@ use events::answer::answer_line;
 use reply::ANSWER_ROOM;
 ghost use mathlib.Core.Path.{_≡_};
 ghost use mathlib.Core.Bool.{true};
-ghost use Prim.Native.Nat.{_-_, _<_, _≤_};
+ghost use Prim.Native.Nat.{_<_, _≤_};
 ghost use lib.ListN.{length, getD};
-ghost use Rattle.book.specs.Words.{part};
 ghost use Rattle.events.specs.Answering.{answerTo, bookAfter};
-ghost use Rattle.reply.specs.Printed.{answerRoom};
 ghost use Rattle.script.specs.Script.{Ran};
 
 // The place after the line that stands at `at`, its line feed passed.
@@ -39,7 +37,7 @@ fn without_feed(s: &[u8], at: usize, end: usize) -> usize
 
 // Whether a line gets this answer.
 fn is_answered(book: &mut [u32], line: &[u8], answer: &[u8]) -> bool
-    ensures { λ r. ⌜ r ≡ true → answerTo (now (book .entry)) (now (line .entry)) ≡ now (answer .entry) ⌝ }
+    ensures { λ r. ⌜ (r ≡ true → answerTo (now (book .entry)) (now (line .entry)) ≡ now (answer .entry)) ⌝ }
     ensures { λ r. ⌜ now (book .exit) ≡ bookAfter (now (book .entry)) (now (line .entry)) ⌝ }
 {
     let mut out = [0u8; ANSWER_ROOM];
@@ -49,7 +47,7 @@ fn is_answered(book: &mut [u32], line: &[u8], answer: &[u8]) -> bool
 
 // Whether every line of the script gets its answer.
 pub fn runs(book: &mut [u32], script: &[u8]) -> bool
-    ensures { λ r. ⌜ r ≡ true → Ran (now (book .entry)) (now (script .entry)) (length (now (script .entry))) (now (book .exit)) ⌝ }
+    ensures { λ r. ⌜ (r ≡ true → Ran (now (book .entry)) (now (script .entry)) (length (now (script .entry))) (now (book .exit))) ⌝ }
 {
     let mut good = true;
     let mut at = 0;
@@ -76,7 +74,7 @@ pub fn repeated(book: &mut [u32], script: &[u8], times: usize) -> bool {
 
 // Whether a word of the book has this value.
 pub fn is_word(book: &[u32], at: usize, value: u32) -> bool
-    ensures { λ r. ⌜ r ≡ true → getD (now (book .entry)) at 0 ≡ value ⌝ }
+    ensures { λ r. ⌜ (r ≡ true → getD (now (book .entry)) at 0 ≡ value) ⌝ }
 {
     if at < book.len() {
         return book[at] == value;

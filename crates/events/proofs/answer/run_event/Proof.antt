@@ -1,4 +1,4 @@
--- `events::answer::run` meets its contract: the dispatcher's promise settles what is printed.
+-- `events::answer::run_event` meets its contract: the dispatcher's promise settles what is printed.
 -- Assumes nothing.
 use mathlib.Core.Path.{_∙_, ap, ap₂}
 use denote.Ref.{now}
@@ -8,8 +8,8 @@ use Rattle.line.proofs.PrintLaws.{wrote-same}
 use Rattle.reply.specs.Printed.{printed}
 use Rattle.events.specs.Answering.{eventBook, eventSays}
 use borrow.Author.Needs.{needs}
-use Rattle.events.proofs.answer.run.Statement.{statement}
-use Rattle.events.proofs.answer.run.Tie as tie
+use Rattle.events.proofs.answer.run_event.Statement.{statement}
+use Rattle.events.proofs.answer.run_event.Tie as tie
 
 returns : tie.Need-returns
 unfolding eventBook eventSays requestOf
@@ -21,8 +21,8 @@ returns c =
     let promise = performed .perform .ensures in
     (promise .book ∙ ap (bookAfter l) request, wrote-same (ap printed (promise .answer ∙ ap (replyTo l) request)) (c .before .before .say .ensures))
 
-pub run-spec : {M : Type 1} → statement M
-run-spec =
+pub run-event-spec : {M : Type 1} → statement M
+run-event-spec =
     tie.close
     (tie.spec
     (λ c κs. search needs)
