@@ -49,27 +49,29 @@ fn is_answered(book: &mut [u32], line: &[u8], answer: &[u8]) -> bool
 pub fn runs(book: &mut [u32], script: &[u8]) -> bool
     ensures { λ r. ⌜ (r ≡ true → Ran (now (book .entry)) (now (script .entry)) (length (now (script .entry))) (now (book .exit))) ⌝ }
 {
-    let mut good = true;
     let mut at = 0;
     while at < script.len() {
         let end = line_after(script, at);
         let stop = line_after(script, end);
         let feed = without_feed(script, at, end);
-        good = is_answered(book, &script[at..feed], &script[end..stop]) && good;
+        if !is_answered(book, &script[at..feed], &script[end..stop]) {
+            return false;
+        }
         at = stop;
     }
-    good
+    true
 }
 
 // The same script again and again.
 pub fn repeated(book: &mut [u32], script: &[u8], times: usize) -> bool {
-    let mut good = true;
     let mut i = 0;
     while i < times {
-        good = runs(book, script) && good;
+        if !runs(book, script) {
+            return false;
+        }
         i += 1;
     }
-    good
+    true
 }
 
 // Whether a word of the book has this value.
