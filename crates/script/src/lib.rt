@@ -1,13 +1,11 @@
 // A script: lines of the desk, each with the answer that it must get on the line after it. It is run on a book, and every answer compared.
 use check::same;
 use events::answer::answer_line;
-use reply::ANSWER_ROOM;
 ghost use mathlib.Core.Path.{_≡_};
 ghost use mathlib.Core.Bool.{true};
 ghost use Prim.Native.Nat.{_<_, _≤_};
 ghost use lib.ListN.{length, getD};
-ghost use Rattle.events.specs.Answering.{answerTo, bookAfter};
-ghost use Rattle.script.specs.Script.{Ran};
+ghost use Rattle.reply.specs.Printed.{answerRoom};
 
 // The place after the line that stands at `at`, its line feed passed.
 fn line_after(s: &[u8], at: usize) -> usize
@@ -35,43 +33,48 @@ fn without_feed(s: &[u8], at: usize, end: usize) -> usize
     end
 }
 
-// Whether a line gets this answer.
-fn is_answered(book: &mut [u32], line: &[u8], answer: &[u8]) -> bool
-    ensures { λ r. ⌜ (r ≡ true → answerTo (now (book .entry)) (now (line .entry)) ≡ now (answer .entry)) ⌝ }
-    ensures { λ r. ⌜ now (book .exit) ≡ bookAfter (now (book .entry)) (now (line .entry)) ⌝ }
+// Whether the line that stands at `at` up to `end` gets the answer that stands there up to `stop`.
+fn is_answered(
+    book: &mut [u32],
+    out: &mut [u8],
+    script: &[u8],
+    at: usize,
+    end: usize,
+    stop: usize,
+) -> bool
+    requires { ⌜ (answerRoom ≤ length (now out)) × (at < end) × (end ≤ stop) × (stop ≤ length (now script)) ⌝ }
 {
-    let mut out = [0u8; ANSWER_ROOM];
-    let n = answer_line(book, line, &mut out, 0);
-    same(&out[..n], answer)
+    let feed = without_feed(script, at, end);
+    let n = answer_line(book, &script[at..feed], out, 0);
+    same(&out[..n], &script[end..stop])
 }
 
 // Whether every line of the script gets its answer.
-pub fn runs(book: &mut [u32], script: &[u8]) -> bool
-    ensures { λ r. ⌜ (r ≡ true → Ran (now (book .entry)) (now (script .entry)) (length (now (script .entry))) (now (book .exit))) ⌝ }
+pub fn runs(book: &mut [u32], out: &mut [u8], script: &[u8]) -> bool
+    requires { ⌜ answerRoom ≤ length (now out) ⌝ }
 {
+    let mut good = true;
     let mut at = 0;
     while at < script.len() {
         let end = line_after(script, at);
         let stop = line_after(script, end);
-        let feed = without_feed(script, at, end);
-        if !is_answered(book, &script[at..feed], &script[end..stop]) {
-            return false;
-        }
+        good = is_answered(book, out, script, at, end, stop) && good;
         at = stop;
     }
-    true
+    good
 }
 
 // The same script again and again.
-pub fn repeated(book: &mut [u32], script: &[u8], times: usize) -> bool {
+pub fn repeated(book: &mut [u32], out: &mut [u8], script: &[u8], times: usize) -> bool
+    requires { ⌜ answerRoom ≤ length (now out) ⌝ }
+{
+    let mut good = true;
     let mut i = 0;
     while i < times {
-        if !runs(book, script) {
-            return false;
-        }
+        good = runs(book, out, script) && good;
         i += 1;
     }
-    true
+    good
 }
 
 // Whether a word of the book has this value.
