@@ -1,3 +1,2 @@
-pub mod OutLaws
-pub mod CallLaws
 pub mod GreaterLaws
+pub mod Unique

@@ -1,26 +1,22 @@
 // The register as C calls it: each function makes one call and gives the number of its answer. include/depot_register.h declares them.
-pub mod dates;
-pub mod out;
+pub mod days;
 
-use crate::out::fill;
 use book::parts::wide;
 use calls::reply::answered;
-use calls::reply::found;
-use calls::reply::wrote;
 use events::answer::answer_line;
 use order::record::MOST_DEPOTS;
 use order::record::exceeds;
-use paper::answer::Outcome;
-use paper::answer::Reply;
+use paper::answer::Payload;
 use paper::number::number_in;
-use read::read;
 use refresh::refresh;
 use reply::ANSWER_ROOM;
 use setup::setup;
 use take::take;
+use telling::tell_grams;
+use telling::tell_read;
+use telling::tell_write;
 use tick::tick;
 use whole::is_fit;
-use write::write;
 ghost use mathlib.Core.Path.{_≡_};
 ghost use lib.Dec.{leb};
 ghost use lib.ListN.{length};
@@ -28,29 +24,14 @@ ghost use lib.Seq.{sets};
 ghost use Rattle.loops.specs.Loops.{pick};
 ghost use Rattle.fit.specs.Fit.{fit};
 ghost use Rattle.paper.specs.Calls.{read, write, tick, take, refresh};
-ghost use Rattle.paper.specs.Answers.{onPaper, Holds};
 ghost use Rattle.upkeep.specs.Requests.{setup, call, numberAt, replyTo, bookAfter};
+ghost use Rattle.room.specs.Room.{noRoom, inRoom, filled};
+ghost use Rattle.card.specs.Card.{gramsAnswer, gramsNumber};
+ghost use Rattle.telling.specs.Told.{readWords, writeWords, gramsWords, wordsOf, gramsOut};
 ghost use Rattle.reply.specs.Printed.{answerRoom};
 ghost use Rattle.events.specs.Answering as events;
 ghost use Rattle.events.specs.Answering.{answerTo};
-ghost use Rattle.export.specs.Numbers.{filled, wordsOf, greaterNumber};
-
-// What a reply tells stands in `out`.
-fn tell(out: &mut [u32], reply: Reply)
-    requires { ⌜ Holds (onPaper reply) (reply .vector) (reply .depots) ⌝ }
-    ensures { λ r. ⌜ now (out .exit) ≡ filled (wordsOf (onPaper reply)) (now (out .entry)) ⌝ }
-{
-    let outcome = reply.outcome;
-    let v = reply.vector;
-    match outcome {
-        Outcome::Value(value) => fill(out, &[1, value, v[0], v[1], v[2], v[3]]),
-        Outcome::Unwritten => fill(out, &[0, 0, v[0], v[1], v[2], v[3]]),
-        Outcome::Current(stamp) => fill(out, &[stamp, 1]),
-        Outcome::Superseded(stamp) => fill(out, &[stamp, 0]),
-        Outcome::Done => {}
-        Outcome::Refused(_) => {}
-    }
-}
+ghost use Rattle.export.specs.Numbers.{greaterNumber};
 
 #[no_mangle]
 pub extern "C" fn depot_setup(
@@ -97,13 +78,12 @@ pub extern "C" fn depot_refresh(book: &mut [u32], depot: u32, shelf: u32) -> u32
 
 #[no_mangle]
 pub extern "C" fn depot_read(book: &mut [u32], crew: u32, bearing: u32, out: &mut [u32]) -> u32
-    ensures { λ r. ⌜ r ≡ numberAt (now (book .entry)) (call (read crew bearing)) ⌝ }
-    ensures { λ r. ⌜ now (book .exit) ≡ bookAfter (now (book .entry)) (call (read crew bearing)) ⌝ }
-    ensures { λ r. ⌜ now (out .exit) ≡ filled (wordsOf (replyTo (now (book .entry)) (call (read crew bearing)))) (now (out .entry)) ⌝ }
+    ensures { λ r. ⌜ r ≡ inRoom readWords (now (out .entry)) (numberAt (now (book .entry)) (call (read crew bearing))) noRoom ⌝ }
+    ensures { λ r. ⌜ now (book .exit) ≡ inRoom readWords (now (out .entry)) (bookAfter (now (book .entry)) (call (read crew bearing))) (now (book .entry)) ⌝ }
+    ensures { λ r. ⌜ now (out .exit)
+        ≡ inRoom readWords (now (out .entry)) (filled (wordsOf (replyTo (now (book .entry)) (call (read crew bearing)))) (now (out .entry))) (now (out .entry)) ⌝ }
 {
-    let reply = found(read(book, crew, bearing));
-    tell(out, reply);
-    number_in(reply)
+    tell_read(book, crew, bearing, out)
 }
 
 #[no_mangle]
@@ -112,15 +92,31 @@ pub extern "C" fn depot_write(
     crew: u32,
     bearing: u32,
     value: u32,
+    diameter: u32,
+    width: u32,
     out: &mut [u32],
 ) -> u32
-    ensures { λ r. ⌜ r ≡ numberAt (now (book .entry)) (call (write crew bearing value)) ⌝ }
-    ensures { λ r. ⌜ now (book .exit) ≡ bookAfter (now (book .entry)) (call (write crew bearing value)) ⌝ }
-    ensures { λ r. ⌜ now (out .exit) ≡ filled (wordsOf (replyTo (now (book .entry)) (call (write crew bearing value)))) (now (out .entry)) ⌝ }
+    ensures { λ r. ⌜ r ≡ inRoom writeWords (now (out .entry)) (numberAt (now (book .entry)) (call (write crew bearing (record { value = value; diameter = diameter; width = width })))) noRoom ⌝ }
+    ensures { λ r. ⌜ now (book .exit)
+        ≡ inRoom writeWords (now (out .entry)) (bookAfter (now (book .entry)) (call (write crew bearing (record { value = value; diameter = diameter; width = width })))) (now (book .entry)) ⌝ }
+    ensures { λ r. ⌜ now (out .exit)
+        ≡ inRoom writeWords (now (out .entry)) (filled (wordsOf (replyTo (now (book .entry)) (call (write crew bearing (record { value = value; diameter = diameter; width = width }))))) (now (out .entry))) (now (out .entry)) ⌝ }
 {
-    let reply = wrote(write(book, crew, bearing, value));
-    tell(out, reply);
-    number_in(reply)
+    let payload = Payload {
+        value,
+        diameter,
+        width,
+    };
+    tell_write(book, crew, bearing, payload, out)
+}
+
+// The grams of the card of two words: the low and the high word of their bits.
+#[no_mangle]
+pub extern "C" fn depot_grams(diameter: u32, width: u32, out: &mut [u32]) -> u32
+    ensures { λ r. ⌜ r ≡ inRoom gramsWords (now (out .entry)) (gramsNumber (gramsAnswer diameter width)) noRoom ⌝ }
+    ensures { λ r. ⌜ now (out .exit) ≡ inRoom gramsWords (now (out .entry)) (filled (gramsOut (gramsAnswer diameter width)) (now (out .entry))) (now (out .entry)) ⌝ }
+{
+    tell_grams(diameter, width, out)
 }
 
 #[no_mangle]

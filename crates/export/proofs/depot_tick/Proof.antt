@@ -1,7 +1,7 @@
 -- `export::depot_tick` meets its contract: the promise of the call.
 -- Assumes nothing.
 use Rattle.upkeep.specs.Requests.{ticked}
-use Rattle.export.proofs.CallLaws.{by-call}
+use Rattle.telling.proofs.CallLaws.{by-call}
 use borrow.Author.Needs.{needs}
 use Rattle.export.proofs.depot_tick.Statement.{statement}
 use Rattle.export.proofs.depot_tick.Tie as tie

@@ -9,7 +9,7 @@ mod look;
 use std::fmt;
 
 use crate::parts::{looks, means, Call, Part, CALLS, PARTS};
-use crate::register::{grams_answer, number, read_answer, write_answer, Register};
+use crate::register::{grams_answer, in_room, number, read_answer, write_answer, Register};
 pub use lines::desk;
 
 macro_rules! slips {
@@ -320,11 +320,11 @@ impl Register for Slipped {
     }
 
     fn read(&self, book: &mut [u32], crew: u32, bearing: u32, out: &mut [u32]) -> u32 {
-        read_answer(self.call_read(book, crew, bearing), out)
+        in_room(8, out, |out| read_answer(self.call_read(book, crew, bearing), out))
     }
 
     fn write(&self, book: &mut [u32], crew: u32, bearing: u32, value: u32, card: [u32; 2], out: &mut [u32]) -> u32 {
-        write_answer(self.call_write(book, crew, bearing, value, card), out)
+        in_room(2, out, |out| write_answer(self.call_write(book, crew, bearing, value, card), out))
     }
 
     fn tick(&self, book: &mut [u32], depot: u32, shelf: u32) -> u32 {
@@ -351,7 +351,7 @@ impl Register for Slipped {
     }
 
     fn grams(&self, card: [u32; 2], out: &mut [u32]) -> u32 {
-        grams_answer(self.call_grams(card), out)
+        in_room(2, out, |out| grams_answer(self.call_grams(card), out))
     }
 
     fn line(&self, book: &mut [u32], line: &[u8], out: &mut [u8]) -> usize {
