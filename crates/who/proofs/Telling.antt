@@ -1,12 +1,12 @@
 -- What an answer tells, bit by bit; and of a fit book it is never BAD BOOK.
 -- Assumes nothing.
-use Prim.Native.Nat.{ℕ}
-use mathlib.Core.Path.{_≡_, refl, sym, _∙_, ap, subst₂}
+use Prim.Native.Nat.{ℕ, _-_, _^_, _<_}
+use mathlib.Core.Path.{_≡_, refl, sym, _∙_, ap, ap₂, subst₂}
 use mathlib.Core.Logic.{⊎-elim}
 use mathlib.Core.Bool.{Bool, true, false, not, _||_}
 use mathlib.Core.List.{List}
 use lib.Dec.{eqb, leb}
-use borrow.Author.Tests.{leb-false}
+use borrow.Author.Tests.{leb-false, eq-eqb}
 use Rattle.loops.proofs.BoolLaws.{decided, pick-true, pick-false, and-right, and-intro, or-left, or-right}
 use Rattle.loops.proofs.LoopLaws.{every-at, every-intro}
 use Rattle.order.specs.Vector.{zeros}
@@ -16,9 +16,10 @@ use Rattle.book.specs.Layout.{countsOf, stored}
 use Rattle.fit.specs.Fit.{homesFit, crewsFit, shelvesFit, linksFit, storesFit, partsFit, fit}
 use Rattle.fit.proofs.FitLaws.{fit-open}
 use Rattle.named.proofs.NamedLaws.{fit-base}
-use Rattle.who.specs.Bits.{maskOf, countOf}
+use Rattle.who.specs.Bits.{bitOf, maskOf, countOf}
 use Rattle.who.specs.Who.{hasIt, whoParts, whoFit, whoNumber, has, refused, holders, whoTold, Tells}
 use Rattle.who.proofs.MaskLaws.{mask-ones, bit-in, bit-out, mask-all, count-all}
+use Rattle.who.proofs.WhoLaws.{who-named, who-good}
 use Rattle.who.proofs.Unique.{has-not}
 
 -- nothing is above itself, and an unwritten version is above nothing
@@ -70,3 +71,21 @@ fit-who l h d k =
     and-intro (fit-base l h)
     (unless (leb (n .depots) d)
     (λ a. unless (leb (n .bearings) k) (λ b. every-intro (n .depots) _ (λ x i. every-at (n .bearings) _ (every-at (n .depots) _ stores x i) k (leb-false _ _ b)))))
+
+-- ---- all bits
+
+module _ (l : List ℕ) (d k : ℕ) where
+  pub fit-number : fit l ≡ true → d < countsOf l .depots → k < countsOf l .bearings → whoNumber l d k ≡ 0
+  fit-number h a b = let f = fit-base l h in who-good l d k f a b (sym (who-named l d k f a b) ∙ fit-who l h d k)
+
+  -- every depot has it: all bits are set
+  pub told-all : whoNumber l d k ≡ 0 → ((x : ℕ) → x < countsOf l .depots → hasIt (countsOf l .depots) l d k x ≡ true)
+      → whoTold l d k ≡ has (2 ^ countsOf l .depots - 1) (countsOf l .depots)
+  unfolding whoTold holders
+  told-all e all = pick-true _ _ (eq-eqb _ 0 e) ∙ ap₂ has (mask-all _ (countsOf l .depots) all) (count-all _ (countsOf l .depots) all)
+
+  -- and the other way round
+  pub all-told : whoTold l d k ≡ has (2 ^ countsOf l .depots - 1) (countsOf l .depots) → (x : ℕ) → x < countsOf l .depots → hasIt (countsOf l .depots) l d k x ≡ true
+  all-told e x h =
+      let n = countsOf l .depots in
+      sym (who-tells l d k e .bits x h) ∙ sym (ap (λ (m : ℕ). bitOf m x) (mask-all (λ y. true) n (λ y i. refl))) ∙ bit-in (λ y. true) n x h
