@@ -123,7 +123,6 @@ module _ (b : List ℕ) (n : Counts) (homes : List ℕ) (done : setupNumber b n 
           written
           (decided (zeros (n .depots) (vectorOf here)))
 
-
   pub everybody : Everybody n homes
   everybody = record {
     numbers = numbered;
