@@ -3,6 +3,7 @@ pub mod days;
 
 use book::parts::wide;
 use events::answer::answer_line;
+use holders::tell_who;
 use order::record::MOST_DEPOTS;
 use order::record::exceeds;
 use paper::request::Request;
@@ -22,6 +23,8 @@ ghost use Rattle.paper.specs.Calls.{read, write, tick, take, refresh};
 ghost use Rattle.upkeep.specs.Requests.{setup, call, numberAt, replyTo, bookAfter};
 ghost use Rattle.room.specs.Room.{noRoom, inRoom, filled};
 ghost use Rattle.telling.specs.Told.{readWords, writeWords, wordsOf};
+ghost use Rattle.who.specs.Who.{whoTold};
+ghost use Rattle.holders.specs.Told.{whoWords, toldNumber, toldOut};
 ghost use Rattle.reply.specs.Printed.{answerRoom};
 ghost use Rattle.events.specs.Answering as events;
 ghost use Rattle.events.specs.Answering.{answerTo};
@@ -105,6 +108,14 @@ pub extern "C" fn depot_write(
         value,
     };
     ask_telling(book, request, WRITE_WORDS, out)
+}
+
+#[no_mangle]
+pub extern "C" fn depot_who_has(book: &[u32], depot: u32, bearing: u32, out: &mut [u32]) -> u32
+    ensures { λ r. ⌜ r ≡ inRoom whoWords (now (out .entry)) (toldNumber (whoTold (now (book .entry)) depot bearing)) noRoom ⌝ }
+    ensures { λ r. ⌜ now (out .exit) ≡ inRoom whoWords (now (out .entry)) (toldOut (whoTold (now (book .entry)) depot bearing) (now (out .entry))) (now (out .entry)) ⌝ }
+{
+    tell_who(book, depot, bearing, out)
 }
 
 #[no_mangle]
