@@ -106,5 +106,6 @@ module _ (l : List ℕ) (full : length l ≡ bookWords) where
     shown = told cases.listingToB 0 1 (lit≤ tt) (lit≤ tt) (own-has 2 _ 0 1) (bit-now cases.listingToB 0 1 1 (lit≤ tt) (lit≤ tt) (lit≤ tt) ∙ ap not thirty-same);
     no-depot = refused-as _ 2 4 (who-depot _ 2 4 (fit-base _ (agrees listingEnd .fits)) (subst (λ (m : ℕ). m ≤ 2) (sym (two listingEnd .0)) (lit≤ tt))) refl;
     no-bearing = refused-as _ 1 4
-        (who-key _ 1 4 (fit-base _ (agrees listingEnd .fits)) (subst (λ (m : ℕ). 1 < m) (sym (two listingEnd .0)) (lit≤ tt)) (subst (λ (m : ℕ). m ≤ 4) (sym (two listingEnd .1)) (lit≤ tt))) refl;
+        (who-key _ 1 4 (fit-base _ (agrees listingEnd .fits)) (subst (λ (m : ℕ). 1 < m) (sym (two listingEnd .0)) (lit≤ tt))
+        (subst (λ (m : ℕ). m ≤ 4) (sym (two listingEnd .1)) (lit≤ tt))) refl;
   }

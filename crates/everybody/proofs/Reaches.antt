@@ -2,7 +2,7 @@
 -- versions that a history stores this is "it or a greater one", since no two writes share vector and origin.
 -- Assumes nothing.
 use Prim.Native.Nat.{ℕ, _-_, _^_, _<_}
-use mathlib.Core.Path.{_≡_, refl, sym, _∙_, ap, subst, subst₂}
+use mathlib.Core.Path.{_≡_, sym, _∙_, ap, subst, subst₂}
 use mathlib.Core.Logic.{inl, inr, ⊎-elim}
 use mathlib.Core.Bool.{true, false, not}
 use mathlib.Core.List.{List, [], _∷_, _++_}
@@ -34,7 +34,7 @@ use Rattle.bridge.proofs.Decoded.{version-unwritten, version-zeros, version-abo
 use Rattle.bridge.proofs.SetupView.{setup-open, setup-model}
 use Rattle.bridge.proofs.Followed.{book-follows}
 use Rattle.bridge.proofs.TheDemands.{the-demands}
-use Rattle.who.specs.Who.{hasIt, whoFit, whoNumber, has, whoTold}
+use Rattle.who.specs.Who.{hasIt, whoNumber, has, whoTold}
 use Rattle.who.proofs.Telling.{fit-who, fit-number, told-all, all-told}
 use Rattle.everybody.specs.Everybody.{present, everyone, Everybody}
 

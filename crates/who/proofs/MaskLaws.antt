@@ -2,7 +2,7 @@
 -- Assumes nothing.
 use Prim.Native.Nat.{ℕ, zero, suc, _+_, _*_, _-_, _/_, _%_, _^_, _≤_, _<_}
 use native.Mathlib.Omega.{arith}
-use native.Mathlib.Nat.{pow-suc, mul-assoc, add-comm, add-mul-div-right, div-eq-of-lt, lt-of-lt-of-le, le-antisymm, zero-lt-suc}
+use native.Mathlib.Nat.{pow-suc, mul-assoc, add-comm, add-mul-div-right, div-eq-of-lt, lt-of-lt-of-le}
 use native.Mathlib.Numerals.{add-one}
 use mathlib.Core.Path.{_≡_, refl, sym, _∙_, ap, ap₂}
 use mathlib.Core.Logic.{⊎-elim}
@@ -73,7 +73,8 @@ module _ (p : ℕ → Bool) where
       let split : b * 2 ^ i ≡ b * 2 ^ suc j * 2 ^ x =
       ap (λ (k : ℕ). b * 2 ^ k) (omega arith) ∙ ap (λ (k : ℕ). b * k) (pow-add 2 (suc j) x) ∙ sym (mul-assoc b (2 ^ suc j) (2 ^ x)) in
       ap (λ (k : ℕ). eqb ((k + maskOf i p) / 2 ^ x % 2) 1) split
-      ∙ ap (λ (k : ℕ). eqb (k % 2) 1) (ap (λ (k : ℕ). k / 2 ^ x) (add-comm (b * 2 ^ suc j * 2 ^ x) (maskOf i p)) ∙ add-mul-div-right (maskOf i p) (b * 2 ^ suc j) (pow-pos x) ∙ add-comm _ _)
+      ∙ ap (λ (k : ℕ). eqb (k / 2 ^ x % 2) 1) (add-comm (b * 2 ^ suc j * 2 ^ x) (maskOf i p))
+      ∙ ap (λ (k : ℕ). eqb (k % 2) 1) (add-mul-div-right (maskOf i p) (b * 2 ^ suc j) (pow-pos x) ∙ add-comm _ _)
       ∙ ap (λ (k : ℕ). eqb k 1) (block-odd b j (maskOf i p / 2 ^ x))
     where
       pow-pos : (k : ℕ) → 0 < 2 ^ k

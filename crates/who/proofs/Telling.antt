@@ -17,7 +17,7 @@ use Rattle.fit.specs.Fit.{homesFit, crewsFit, shelvesFit, linksFit, storesFit, 
 use Rattle.fit.proofs.FitLaws.{fit-open}
 use Rattle.named.proofs.NamedLaws.{fit-base}
 use Rattle.who.specs.Bits.{bitOf, maskOf, countOf}
-use Rattle.who.specs.Who.{hasIt, whoParts, whoFit, whoNumber, has, refused, holders, whoTold, Tells}
+use Rattle.who.specs.Who.{hasIt, whoParts, whoFit, whoNumber, has, holders, whoTold, Tells}
 use Rattle.who.proofs.MaskLaws.{mask-ones, bit-in, bit-out, mask-all, count-all}
 use Rattle.who.proofs.WhoLaws.{who-named, who-good}
 use Rattle.who.proofs.Unique.{has-not}

@@ -42,7 +42,8 @@ bearing-known :
 bearing-known c =
     let args = c .before .before .before .before .before .before .before .before .before .before .before .before .args in
     let good = good-bearing _ (c .before .before .before .checked2 .ensures) (c .before .k .given .1) in
-    (subst (λ (n : Counts). args .bearing < n .bearings) (c .before .before .before .before .before .before .before .before .counts-of .ensures) (good .0), ap (λ (x : Bearing). x .0) (good .1))
+    let counts = c .before .before .before .before .before .before .before .before .counts-of .ensures in
+    (subst (λ (n : Counts). args .bearing < n .bearings) counts (good .0), ap (λ (x : Bearing). x .0) (good .1))
 
 -- what the test of the parts says
 parts-said :
@@ -65,15 +66,18 @@ unfolding numberOf
 returns-2 c =
     let at = c .before .before .before in
     let args = at .before .before .before .before .args in
-    let over = subst (λ (n : Counts). n .depots ≤ args .depot) (at .counts-of .ensures) (bad-depot (c .before .before .checked .ensures) (c .enum-told .given .1)) in
+    let bad = bad-depot (c .before .before .checked .ensures) (c .enum-told .given .1) in
+    let over = subst (λ (n : Counts). n .depots ≤ args .depot) (at .counts-of .ensures) bad in
     who-refused _ _ _ BadDepot (who-depot _ _ _ (base (at .before)) over)
 
 returns-3 : tie.Need-returns-3
 unfolding numberOf
 returns-3 c =
     let args = c .before .before .before .before .before .before .before .before .before .before .before .args in
-    let over = subst (λ (n : Counts). n .bearings ≤ args .bearing) (c .before .before .before .before .before .before .before .counts-of .ensures) (bad-bearing (c .before .before .checked2 .ensures) (c .enum-told2 .given .1)) in
-    who-refused _ _ _ BadKey (who-key _ _ _ (base (c .before .before .before .before .before .before .before .before)) (depot-known (c .before .before .before) .0) over)
+    let told = c .before .before .before in
+    let bad = bad-bearing (c .before .before .checked2 .ensures) (c .enum-told2 .given .1) in
+    let over = subst (λ (n : Counts). n .bearings ≤ args .bearing) (told .before .before .before .before .counts-of .ensures) bad in
+    who-refused _ _ _ BadKey (who-key _ _ _ (base (told .before .before .before .before .before)) (depot-known told .0) over)
 
 stores-fit-requires : tie.Need-stores-fit-requires
 stores-fit-requires c κs =
@@ -89,7 +93,7 @@ unfolding numberOf
 returns-4 c =
     let told = c .before .before .before .before .before .before in
     who-refused _ _ _ BadBook
-    (who-parts _ _ _ (base (c .before .before .before .before .before .before .before .before .before .before .before)) (depot-known told .0) (bearing-known (c .before .before) .0) (test-failed (parts-said (c .before)) (c .if2 .taken)))
+    (who-parts _ _ _ (base (told .before .before .before .before .before)) (depot-known told .0) (bearing-known (c .before .before) .0) (test-failed (parts-said (c .before)) (c .if2 .taken)))
 
 mask-of-requires : tie.Need-mask-of-requires
 mask-of-requires c κs =
@@ -104,10 +108,11 @@ mask-of-requires c κs =
 
 returns-5 : tie.Need-returns-5
 returns-5 c =
-    let depot = depot-known (c .before .before .before .before .before .before .before) in
+    let told = c .before .before .before .before .before .before .before in
+    let depot = depot-known told in
     let bearing = bearing-known (c .before .before .before) in
-    who-done _ _ _ (who-good _ _ _ (base (c .before .before .before .before .before .before .before .before .before .before .before .before)) (depot .0) (bearing .0) (test-passed (parts-said (c .before .before)) (c .before .if2 .left)))
-    (c .before .before .before .before .before .before .before .before .before .before .before .counts-of .ensures) (depot .1) (bearing .1) (c .mask-of .ensures)
+    who-done _ _ _ (who-good _ _ _ (base (told .before .before .before .before .before)) (depot .0) (bearing .0) (test-passed (parts-said (c .before .before)) (c .before .if2 .left)))
+    (told .before .before .before .before .counts-of .ensures) (depot .1) (bearing .1) (c .mask-of .ensures)
 
 pub who-has-spec : {M : Type 1} → statement M
 who-has-spec =
