@@ -13,7 +13,7 @@ use straight::{who_has, Counts, WORDS};
 /// What stands in `out` before a call.
 const OLD: u32 = 0xDEAD_BEEF;
 /// The lists that are replayed.
-const LISTS: u64 = 60;
+const LISTS: u64 = 400;
 
 /// What the answers came to.
 #[derive(Default)]
@@ -74,11 +74,13 @@ fn after_every_event() {
             let n = Counts::of(&buffer);
             let depot = if random.percent(5) { random.word() } else { random.below(n.depots.min(4) + 1) as u32 };
             let bearing = if random.percent(5) { random.word() } else { random.below(n.bearings.min(160) + 1) as u32 };
-            compare(&buffer[..words], depot, bearing, random.below(5), &mut reached);
+            let room = if random.percent(10) { random.below(2) } else { random.between(2, 4) };
+            compare(&buffer[..words], depot, bearing, room, &mut reached);
         }
     }
     let Reached { asked, only_own, some, all, bad_book, bad_part, bad_depot, bad_key, no_room } = reached;
-    println!("asked {asked}: only own {only_own}, some {some}, all {all}, bad book {bad_book}, bad part {bad_part}, bad depot {bad_depot}, bad key {bad_key}, no room {no_room}");
+    println!("asked {asked}: only its own {only_own}, some {some}, all {all}; refused: book {bad_book}, part {bad_part},");
+    println!("depot {bad_depot}, key {bad_key}, no room {no_room}");
     for count in [only_own, some, all, bad_book, bad_part, bad_depot, bad_key, no_room] {
         assert!(count > 0, "something was not reached");
     }
