@@ -28,6 +28,7 @@ extern "C" {
 #define DEPOT_RECORD_WORDS 9   /* words of a version record */
 #define DEPOT_READ_WORDS 6     /* room that depot_read's answer takes in `out` */
 #define DEPOT_WRITE_WORDS 2    /* room that depot_write's answer takes in `out` */
+#define DEPOT_WHO_WORDS 2      /* room that depot_who_has's answer takes in `out` */
 #define DEPOT_NUMBER_WORDS 1   /* room that depot_day_number's answer takes in `out` */
 #define DEPOT_DATE_WORDS 3     /* room that depot_date_of's answer takes in `out` */
 #define DEPOT_NEXT_WORDS 4     /* room that depot_next_date's answer takes in `out` */
@@ -81,6 +82,12 @@ uint32_t depot_take(uint32_t *book, size_t words, uint32_t depot, uint32_t shelf
 /* The shelf raises its stable vector to the lowest stamps that the depot's shelves have seen, and shows what that covers.
  * Checks: 1, 2, 3. */
 uint32_t depot_refresh(uint32_t *book, size_t words, uint32_t depot, uint32_t shelf);
+
+/* Which depots now store a depot's present version of a bearing or a greater one. Looking changes no word of the book.
+ * Checks: 100 if out_count is below DEPOT_WHO_WORDS, 1, 2, 4.
+ * Done: bit d of out[0] is set if depot d has it, the depot itself among them; out[1] is how many bits are set. If what
+ * the depot has is unwritten, all depots have it. No other element of `out` is written. */
+uint32_t depot_who_has(const uint32_t *book, size_t words, uint32_t depot, uint32_t bearing, uint32_t *out, size_t out_count);
 
 /* 1 if the book is fit, else 0. A book of the wrong length is not. */
 uint32_t depot_is_fit(const uint32_t *book, size_t words);

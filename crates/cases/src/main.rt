@@ -12,6 +12,8 @@ use reply::ANSWER_ROOM;
 use script::is_word;
 use script::repeated;
 use script::runs;
+use who::WhoAnswer;
+use who::who_has;
 use whole::is_fit;
 ghost use mathlib.Core.Path.{_≡_};
 ghost use Prim.Native.Nat.{_≤_};
@@ -275,6 +277,30 @@ fn case_m(book: &mut [u32], out: &mut [u8]) -> bool
     written && refused && ordered
 }
 
+// Whether these depots, so many of them, have depot d's version of a bearing.
+fn is_told(book: &[u32], depot: u32, bearing: u32, depots: u32, number: u32) -> bool {
+    match who_has(book, depot, bearing) {
+        WhoAnswer::Has { mask, count } => mask == depots && count == number,
+        WhoAnswer::Refused(_) => false,
+    }
+}
+
+// (n) who has it: at the listing's end both depots have depot 0's 20, depot 0 alone its 30, and all have what depot 1 has of that bearing, unwritten. After (a) and (b) both have the 30.
+fn case_n(book: &mut [u32], out: &mut [u8]) -> bool
+    requires { ⌜ answerRoom ≤ length (now out) ⌝ }
+{
+    let listed = listing(book, out);
+    let both = is_told(book, 0, 0, 3, 2);
+    let one = is_told(book, 0, 1, 1, 1);
+    let unwritten = is_told(book, 1, 1, 3, 2);
+    let shown = runs(
+        book,
+        out,
+        b"R 1 0\n0 20 1 0\nT 1 1 0\n0\nF 1 1\n0\nK 0 0\n0\nT 1 0 0\n0\nF 1 1\n0\n",
+    );
+    listed && both && one && unwritten && shown && is_told(book, 0, 1, 3, 2)
+}
+
 // (?) what must not pass: a wrong number, an answer that is cut, one that goes on, and a wrong word. Each is told as different.
 fn wrong_answers(book: &mut [u32], out: &mut [u8]) -> bool
     requires { ⌜ answerRoom ≤ length (now out) ⌝ }
@@ -326,6 +352,7 @@ fn from_requests(book: &mut [u32], out: &mut [u8])
     tell(b'k', case_k(book, out));
     tell(b'l', case_l(book, out));
     tell(b'm', case_m(book, out));
+    tell(b'n', case_n(book, out));
 }
 
 fn main() {

@@ -1,4 +1,4 @@
-//! The six calls. Each checks in the order of the specification's table, then acts; a refusal moves no word.
+//! The calls. Each checks in the order of the specification's table, then acts; a refusal moves no word.
 //!
 //! BAD BOOK comes first in that table, for the length, the counts, the homes and the parts that the call names. A number out
 //! of range names no part, so each call checks its numbers between the two.
@@ -173,6 +173,28 @@ pub fn refresh(book: &mut [u32], depot: u32, shelf: u32) -> Result<(), Refusal> 
     }
     raise_and_show(book, n, depot, shelf, lowest);
     Ok(())
+}
+
+/// Which depots now store a depot's present version of a bearing or a greater one: a bit for each depot, and how many bits
+/// are set. One with the same vector and origin is neither below nor above, and counts as that version. If the asked depot's
+/// is unwritten, all depots have it.
+pub fn who_has(book: &[u32], depot: u32, bearing: u32) -> Result<(u32, u32), Refusal> {
+    let n = counts(book)?;
+    let depot = below(depot, n.depots, Refusal::BadDepot)?;
+    let bearing = below(bearing, n.bearings, Refusal::BadKey)?;
+    fit(looks::who_has(book, n, bearing))?;
+
+    let asked = &book[stored(depot, bearing)..][..RECORD];
+    let mut mask = 0;
+    let mut count = 0;
+    for any in 0..n.depots {
+        let there = &book[stored(any, bearing)..][..RECORD];
+        if !above(asked, there, n.depots) {
+            mask |= 1 << any;
+            count += 1;
+        }
+    }
+    Ok((mask, count))
 }
 
 /// The counts of a book whose length, counts and homes are fit.

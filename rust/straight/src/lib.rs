@@ -25,7 +25,7 @@ pub mod layout;
 mod looks;
 mod order;
 
-pub use calls::{below, read, refresh, setup, take, tick, vector, write, Reading, Written};
+pub use calls::{below, read, refresh, setup, take, tick, vector, who_has, write, Reading, Written};
 pub use card::{grams, is_card};
 pub use desk::{desk, line, LONGEST_LINE};
 pub use fit::{counts_and_homes, is_fit};

@@ -35,6 +35,11 @@ pub fn write(book: &[u32], n: Counts, crew: usize, bearing: usize) -> bool {
     read(book, n, crew, bearing) && tick(book, n, depot, bearing % n.shelves)
 }
 
+/// The stored versions of the bearing at every depot.
+pub fn who_has(book: &[u32], n: Counts, bearing: usize) -> bool {
+    (0..n.depots).all(|depot| stored_is_fit(book, n, depot, bearing))
+}
+
 /// The stable vector; each link in, head and messages; the stored version of the bearing of each taken copy on them.
 fn raise_and_show(book: &[u32], n: Counts, depot: usize, shelf: usize) -> bool {
     stable_is_fit(book, n, depot, shelf)
