@@ -54,7 +54,7 @@ moving : Silent duo 0 [] (asksThere ∷ []) → ⊥
 unfolding answersNow counts homes after step
 moving (demands.on s n) = n a-move refl
 
-there-and-back : answers counts (fresh homes) caseMove ≡ caseMoveAnswers
+pub there-and-back : answers counts (fresh homes) caseMove ≡ caseMoveAnswers
 unfolding answersNow dominates lawful counts homes caseMove caseMoveAnswers
 there-and-back = answers-computed counts lawful lawful-agrees (fresh homes) caseMove ∙ refl
 
