@@ -11,7 +11,6 @@ use Rattle.book.specs.declared.parts.Counts.{Counts}
 use Rattle.book.specs.Layout.{countsOf, home, linkOf, held, taken, stored}
 use Rattle.fit.specs.Fit.{fit}
 use Rattle.register.specs.Answers.{told}
-use Rattle.register.specs.Calls.{setUp}
 use Rattle.paper.specs.Calls.{Call, read, move, Answer, reads}
 use Rattle.paper.specs.declared.request.Event.{Event}
 use Rattle.line.specs.Reading.{good, reading}

@@ -16,7 +16,7 @@ use Rattle.book.specs.Layout.{countsOf}
 use Rattle.fit.specs.Fit.{homeFit, inRange, crewFit, clockFit, storedFit, Within, fit}
 use Rattle.named.specs.Named.{tickParts, takeParts, refreshParts, readParts, writeParts, baseFit, tickFit, takeFit, refreshFit, readFit, writeFit}
 use Rattle.fit.proofs.FitLaws.{counts-within}
-use Rattle.named.proofs.NamedLaws.{Based, base-open}
+use Rattle.named.proofs.NamedLaws.{base-open}
 use Rattle.shelf.proofs.FrameLaws.{pick-cases}
 use Rattle.register.specs.Table.{readNumber, writeNumber, tickNumber, takeNumber, refreshNumber}
 use Rattle.register.specs.Calls.{setUp, readBook, writeBook, tickBook, takeBook, refreshBook}
