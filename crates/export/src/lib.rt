@@ -1,5 +1,6 @@
 // The register as C calls it: each function makes one call and gives the number of its answer. include/depot_register.h declares them.
 pub mod dates;
+pub mod moves;
 pub mod out;
 
 use crate::out::fill;
