@@ -23,7 +23,7 @@ pub mod layout;
 mod looks;
 mod order;
 
-pub use calls::{below, read, refresh, setup, take, tick, vector, write, Reading, Written};
+pub use calls::{below, move_crew, read, refresh, setup, take, tick, vector, write, Reading, Written};
 pub use desk::{desk, line, LONGEST_LINE};
 pub use fit::{counts_and_homes, is_fit};
 pub use layout::{Counts, WORDS};
@@ -43,6 +43,7 @@ pub enum Refusal {
     LinkFull = 9,
     ClockAtEnd = 10,
     BadCounts = 11,
+    NotHereYet = 12,
     BadLine = 13,
     BadDate = 16,
 }
