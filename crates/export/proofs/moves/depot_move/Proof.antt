@@ -1,52 +1,41 @@
+-- `export::moves::depot_move` meets its contract: the number of the move's answer, and the book of its promise.
+-- Assumes nothing.
+use Prim.Native.Nat.{ℕ}
+use mathlib.Core.Path.{_≡_, sym, _∙_, ap}
+use mathlib.Core.List.{List}
+use Rattle.paper.specs.Calls.{move, numberIn}
+use Rattle.paper.specs.declared.answer.Answer.{Answer}
+use Rattle.paper.specs.Answers.{paper}
+use Rattle.register.specs.Promises.{Move}
+use Rattle.upkeep.specs.Requests.{call, numberAt, moved}
+use Rattle.upkeep.proofs.NeverBadAnswer.{settled, reply-number}
 use borrow.Author.Needs.{needs}
 use Rattle.export.proofs.moves.depot_move.Statement.{statement}
 use Rattle.export.proofs.moves.depot_move.Tie as tie
-use Rattle.export.proofs.moves.depot_move.Reads as reads
-use Rattle.export.proofs.moves.depot_move.Lts as lts
-use Rattle.paper.proofs.number.number_of.Reads as number-of-reads
-use Rattle.rehome.proofs.move_crew.Reads as move-crew-reads
 
--- src/moves.rt:14:11
-move-crew-requires : tie.Need-move-crew-requires
-move-crew-requires c κs = search needs
+-- an answer, known by its case, has the move's number
+answer-number : {l l′ : List ℕ} {c d : ℕ} {r r′ : Answer} → Move l c d r l′ → r ≡ r′ → numberIn (paper r′) ≡ numberAt l (call (move c d))
+answer-number {l} {l′} {c} {d} p e = ap (λ (a : Answer). numberIn (paper a)) (sym e) ∙ ap numberIn (settled (moved p) .0) ∙ reply-number l (call (move c d))
 
--- src/moves.rt:15:25
-enum-told : tie.Need-enum-told
-enum-told c = search needs
-
--- src/moves.rt:16:25
-enum-known-r : tie.Need-enum-known-r
-enum-known-r c = search needs
-
--- src/moves.rt:16:31
-number-of-requires : tie.Need-number-of-requires
-number-of-requires c κs = search needs
-
--- src/moves.rt:9:1
-same-length : tie.Need-same-length
-same-length c = search needs
-
--- src/moves.rt:9:1
 returns : tie.Need-returns
-returns c = ?
+unfolding numberIn paper
+returns c = let p = c .before .before .before .before .move-crew .ensures in (answer-number p (c .enum-told .given .1), settled (moved p) .1)
 
--- src/moves.rt:9:1
-same-length-2 : tie.Need-same-length-2
-same-length-2 c = search needs
-
--- src/moves.rt:9:1
 returns-2 : tie.Need-returns-2
-returns-2 c = ?
+unfolding numberIn paper
+returns-2 c =
+    let p = c .before .before .before .before .before .before .move-crew .ensures in
+    (c .number-of .ensures ∙ answer-number p (c .before .before .r .given .1), settled (moved p) .1)
 
 pub depot-move-spec : {M : Type 1} → statement M
 depot-move-spec =
     tie.close
     (tie.spec
-    move-crew-requires
-    enum-told
-    enum-known-r
-    number-of-requires
-    same-length
+    (λ c κs. search needs)
+    (λ c. search needs)
+    (λ c. search needs)
+    (λ c κs. search needs)
+    (λ c. search needs)
     returns
-    same-length-2
+    (λ c. search needs)
     returns-2)
