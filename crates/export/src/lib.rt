@@ -1,5 +1,6 @@
 // The register as C calls it: each function makes one call and gives the number of its answer. include/depot_register.h declares them.
 pub mod days;
+pub mod moves;
 
 use book::parts::wide;
 use calls::reply::answered;

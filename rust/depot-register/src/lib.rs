@@ -191,6 +191,22 @@ impl Register {
         Ok(Holders { mask, count })
     }
 
+    /// A crew gets a new home. There it reads nothing lower than what it has read and written so far.
+    ///
+    /// ```
+    /// # use depot_register::{Bearing, Counts, Crew, Depot, Refusal, Register, Shelf};
+    /// # let counts = Counts { depots: 2, shelves: 1, bearings: 1, crews: 1 };
+    /// # let mut register = Register::setup(counts, &[Depot(0)]).unwrap();
+    /// register.write(Crew(0), Bearing(0), 20).unwrap();
+    /// assert_eq!(register.move_crew(Crew(0), Depot(1)), Err(Refusal::NotHereYet)); // depot 1 has not heard of it
+    /// register.take(Depot(1), Shelf(0), Depot(0)).unwrap();
+    /// assert_eq!(register.move_crew(Crew(0), Depot(1)), Ok(()));
+    /// assert_eq!(register.read(Crew(0), Bearing(0)).unwrap().value(), Some(20));
+    /// ```
+    pub fn move_crew(&mut self, crew: Crew, depot: Depot) -> Result<(), Refusal> {
+        Refusal::check(raw::move_crew(&mut self.book, crew.0, depot.0))
+    }
+
     /// The answer to a line of the desk, with its line feed. The line comes without one.
     ///
     /// ```

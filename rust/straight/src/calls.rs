@@ -165,13 +165,28 @@ pub fn refresh(book: &mut [u32], depot: u32, shelf: u32) -> Result<(), Refusal> 
     let shelf = below(shelf, n.shelves, Refusal::BadShelf)?;
     fit(looks::refresh(book, n, depot, shelf))?;
 
-    let mut lowest = [END; 4];
-    for from in 0..n.depots {
-        for any in 0..n.shelves {
-            lowest[from] = lowest[from].min(book[seen(depot, any, from)]);
+    let lowest = lowest_seen(book, n, depot);
+    raise_and_show(book, n, depot, shelf, lowest);
+    Ok(())
+}
+
+/// A crew gets a new home. NOT HERE YET if that is another depot and some shelf there has not yet seen all that the crew has
+/// heard of the depots other than it.
+pub fn move_crew(book: &mut [u32], crew: u32, depot: u32) -> Result<(), Refusal> {
+    let n = counts(book)?;
+    let crew = below(crew, n.crews, Refusal::BadCrew)?;
+    let depot = below(depot, n.depots, Refusal::BadDepot)?;
+    fit(looks::move_crew(book, n, crew, depot))?;
+    if book[home(crew)] as usize == depot {
+        return Ok(());
+    }
+    let lowest = lowest_seen(book, n, depot);
+    for x in (0..n.depots).filter(|&x| x != depot) {
+        if book[crew_vector(crew) + x] > lowest[x] {
+            return Err(Refusal::NotHereYet);
         }
     }
-    raise_and_show(book, n, depot, shelf, lowest);
+    book[home(crew)] = depot as u32;
     Ok(())
 }
 
@@ -226,6 +241,17 @@ pub fn vector(book: &[u32], n: Counts, at: usize) -> [u32; 4] {
     let mut entries = [0; 4];
     entries[..n.depots].copy_from_slice(&book[at..at + n.depots]);
     entries
+}
+
+/// The lowest stamp that any shelf of a depot has seen from each depot; what it says of the depot itself means nothing.
+fn lowest_seen(book: &[u32], n: Counts, depot: usize) -> [u32; 4] {
+    let mut lowest = [END; 4];
+    for from in 0..n.depots {
+        for shelf in 0..n.shelves {
+            lowest[from] = lowest[from].min(book[seen(depot, shelf, from)]);
+        }
+    }
+    lowest
 }
 
 /// The other depots' entries of the stable vector rise to what is offered; then each incoming link is shown, from depot 0 on.

@@ -25,7 +25,7 @@ pub mod layout;
 mod looks;
 mod order;
 
-pub use calls::{below, read, refresh, setup, take, tick, vector, who_has, write, Reading, Written};
+pub use calls::{below, move_crew, read, refresh, setup, take, tick, vector, who_has, write, Reading, Written};
 pub use card::{grams, is_card};
 pub use desk::{desk, line, LONGEST_LINE};
 pub use fit::{counts_and_homes, is_fit};
@@ -46,6 +46,7 @@ pub enum Refusal {
     LinkFull = 9,
     ClockAtEnd = 10,
     BadCounts = 11,
+    NotHereYet = 12,
     BadLine = 13,
     BadCard = 14,
     BadDate = 16,
