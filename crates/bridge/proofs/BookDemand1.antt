@@ -44,7 +44,7 @@ module _ (π : model.Counts) where
   acted-home : (σ : State) (q : Call) (c : ℕ) → ((d : ℕ) → q ≡ move c d → ⊥) → acted π σ q .state .home c ≡ σ .home c
   unfolding acted reading rules.send rules.emit rules.settle rules.keep model.setShelf model.setCrew model.setHome
   acted-home σ (read b k) c n = refl
-  acted-home σ (write b k value) c n = refl
+  acted-home σ (write b k payload) c n = refl
   acted-home σ (tick d s) c n = refl
   acted-home σ (take d s from) c n = refl
   acted-home σ (refresh d s) c n = refl

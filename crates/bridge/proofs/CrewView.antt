@@ -104,7 +104,7 @@ told-here n r few =
     pick-true _ _ z ∙ ap read-unwritten same ∙ sym (pick-true _ _ (version-zeros n r ∙ z)))
     (λ (z : zeros n (vectorOf r) ≡ false).
     pick-false _ _ z
-    ∙ ap₂ read-value (sym (ap (λ (v : Version). v .value) (version-written n r z))) same ∙ sym (pick-false _ _ (version-zeros n r ∙ z)))
+    ∙ ap₂ read-value (sym (ap (λ (v : Version). v .payload) (version-written n r z))) same ∙ sym (pick-false _ _ (version-zeros n r ∙ z)))
     (decided (zeros n (vectorOf r)))
   where
     same : take n (cut n (vectorOf r)) ≡ entries n (versionOf n r .vector)

@@ -27,14 +27,14 @@ use Rattle.bridge.proofs.Agrees.{Agrees, stable-by}
 use Rattle.bridge.proofs.Followed.{agrees-start, replies-model, last-model}
 
 module _ (l : List ℕ) (full : length l ≡ bookWords) where
-  set : table.setupNumber l counts homes ≡ 0
+  pub set : table.setupNumber l counts homes ≡ 0
   unfolding table.setupNumber first counts homes countsFit between pick every
   set = ap (λ (b : Bool). pick (not b) 1 0) (eq-eqb (length l) bookWords full)
 
   start : Agrees (toModel counts) (fresh homes) (setUp counts homes)
   start = agrees-start l counts homes set
 
-  set-book : bookAfter l (setup counts homes) ≡ setUp counts homes
+  pub set-book : bookAfter l (setup counts homes) ≡ setUp counts homes
   unfolding bookAfter numberAt changedBy promises.after
   set-book = pick-true _ _ (eq-eqb _ 0 set)
 

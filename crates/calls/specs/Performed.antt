@@ -15,7 +15,7 @@ use Rattle.upkeep.specs.Requests.{Request, setup, call, replyTo, bookAfter}
 abbrev pub asked : request.Request → List ℕ → Request
 asked (request.Request.Setup d p k c) homes = setup (record { depots = d; shelves = p; bearings = k; crews = c }) homes
 asked (request.Request.Read c k) homes = call (read c k)
-asked (request.Request.Write c k value) homes = call (write c k value)
+asked (request.Request.Write c k payload) homes = call (write c k payload)
 asked (request.Request.Tick d s) homes = call (tick d s)
 asked (request.Request.Take d s from) homes = call (take d s from)
 asked (request.Request.Refresh d s) homes = call (refresh d s)

@@ -28,8 +28,8 @@ pub fn perform(book: &mut [u32], request: Request, homes: &[u32]) -> Reply
         Request::Write {
             crew,
             bearing,
-            value,
-        } => wrote(write(book, crew, bearing, value)),
+            payload,
+        } => wrote(write(book, crew, bearing, payload)),
         Request::Tick { depot, shelf } => answered(tick(book, depot, shelf)),
         Request::Take { depot, shelf, from } => answered(take(book, depot, shelf, from)),
         Request::Refresh { depot, shelf } => answered(refresh(book, depot, shelf)),

@@ -8,6 +8,7 @@ use mathlib.Core.List.{List, [], _∷_, _++_, List·Memᴰ·not-nil}
 use borrow.Author.Tests.{eq-eqb, ne-eqb}
 use Rattle.loops.proofs.BoolLaws.{eq-or-ne, pick-true, pick-false}
 use Rattle.model.specs.Parts.{Counts, Write, State, fresh, emptyShelf, unwritten}
+use Rattle.paper.specs.declared.answer.Payload.{Payload}
 use Rattle.paper.specs.Calls.{Call, read, write, tick, take, refresh, move, refused}
 use Rattle.model.specs.Calls.{Outcome, made, refusal, acted, step}
 use Rattle.model.specs.System.{ofModel, after, run}
@@ -52,8 +53,8 @@ module _ (π : Counts) (homes : List ℕ) where
       go t = elim t [ ]
 
   -- a write call makes one write
-  pub wrote-same : {h : List Call} {c k v b : ℕ} {w : Write} → Wrote (ofModel π homes) h (write c k v) b w → w ≡ record { bearing = k; version = made π c k v (run π homes h) }
-  wrote-same {h} {c} {k} {v} {b} {w} t =
+  pub wrote-same : {h : List Call} {c k b : ℕ} {v : Payload} {w : Write} → Wrote (ofModel π homes) h (write c k v) b w → w ≡ record { bearing = k; version = made π c k v (run π homes h) }
+  wrote-same {h} {c} {k} {b} {v} {w} t =
       let call : write c k v ≡ write b (w .bearing) (t .makes .0) = t .makes .1 in
       let bearing : w .bearing ≡ k = cc in
       let is = t .makes .2 in let version : w .version ≡ made π c k v (run π homes h) = cc in

@@ -21,7 +21,7 @@ use Rattle.model.proofs.Settling.{raised-own}
 use Rattle.model.proofs.Room.{roomy-free}
 use Rattle.model.proofs.Unique.{unique, beats}
 use Rattle.model.proofs.Refusals.{set-up, write-passed, tick-passed}
-use Rattle.model.proofs.Dated.{made-dated, stores-dated}
+use Rattle.model.proofs.Dated.{made-dated, stores-dated, made-carded, stores-carded}
 use Rattle.model.proofs.Histories.{run-done, run-refused, inv}
 
 -- shelf by shelf: what each link holds is at most its room, and the own entry is 0
@@ -140,4 +140,6 @@ module _ (π : Counts) where
       beats = λ l h d s q c w hd hs e′. beats π homes (set-up π homes e) l h d s q c w;
       dated = λ h w m. made-dated π homes (m .at);
       stores-dated = stores-dated π homes e;
+      carded = λ h w m. made-carded π homes (m .at);
+      stores-carded = stores-carded π homes e;
     }

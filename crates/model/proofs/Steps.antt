@@ -11,6 +11,7 @@ use Rattle.order.specs.Vector.{Vec, merged}
 use Rattle.loops.proofs.BoolLaws.{eq-or-ne}
 use Rattle.model.specs.Parts.{Counts, Version, Write, Message, copy, heartbeat, Shelf, State, stamp, stampOf, setShelf, setCrew, unwritten, end}
 use Rattle.model.specs.Rules.{settle, storing, keep, send, taking, lowestSeen}
+use Rattle.paper.specs.declared.answer.Payload.{Payload}
 use Rattle.paper.specs.Calls.{read, write, tick, take, refresh, move}
 use Rattle.model.specs.Calls.{none, shelfOf, homeShelf, answered, made, reading, acted}
 use Rattle.model.proofs.Places.{put-all, put-same, put-other, Other, setShelf-here, lowest-below}
@@ -93,10 +94,10 @@ module _ (π : Counts) (M : Write → Type 0) (σ : State) (z : Sound π M σ) w
           (merged-rests π mid-rests read-rests)
           (λ x. omega arith))
 
-    module _ (N : Write → Type 0) (more : (w : Write) → M w → N w) (value : ℕ) (p : WritePassed π σ c k value) where
+    module _ (N : Write → Type 0) (more : (w : Write) → M w → N w) (payload : Payload) (p : WritePassed π σ c k payload) where
       -- the version made, its write, and the states in between
       abbrev v : Version
-      v = made π c k value σ
+      v = made π c k payload σ
 
       abbrev w : Write
       w = record { bearing = k; version = v }
@@ -150,11 +151,11 @@ module _ (π : Counts) (M : Write → Type 0) (σ : State) (z : Sound π M σ) w
         v-sent = send-changes π put-by d s (copy w) N (v-kept .sound) (mid-rests .depot) (lies k) (v-stamp ∙ ap suc (sym same-clock)) (subst (λ y. y < end) (sym same-clock) (p .below))
             (λ x e. subst (λ y. Copied π N s d y) (let t : w ≡ x = cc in t) (record { made = new; origin = unfold made in refl; shelf = refl }))
 
-        pub write-done : Change π N σ (acted π σ (write c k value) .state)
+        pub write-done : Change π N σ (acted π σ (write c k payload) .state)
         unfolding acted
         write-done = changes π (changes π (changes π home-settles crew-told) v-kept) v-sent
 
-        pub write-good : Good π (acted π σ (write c k value) .state) w
+        pub write-good : Good π (acted π σ (write c k payload) .state) w
         unfolding acted made send
         write-good = record {
           rests = rests-grows π (grows-trans π (crew-told .grows) (grows-trans π (v-kept .grows) (v-sent .grows))) v-rests;

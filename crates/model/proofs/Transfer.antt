@@ -16,7 +16,7 @@ use Rattle.model.specs.Calls.{shelfOf}
 use Rattle.model.specs.System.{System, after}
 use Rattle.model.specs.Follows.{Alike, Follows}
 use Rattle.model.specs.Demands as demands
-use Rattle.model.specs.Demands.{AtLeast, Dated, Silent, Wrote, Got, MadeAt, now, earlier, Made, Past, wrote, got, kept, under}
+use Rattle.model.specs.Demands.{AtLeast, Dated, Carded, Silent, Wrote, Got, MadeAt, now, earlier, Made, Past, wrote, got, kept, under}
 use Rattle.model.specs.Demands.{NotInvented, WriteAnswers, Demand2, Round, Rounds, lowestClock, Demand3, Limits, Demands}
 use Rattle.model.specs.Moves.{lowestStamp, Behind, Moves}
 
@@ -118,7 +118,7 @@ module _ {π : Counts} {S T : System} (f : Follows π S T) where
     demand2-from D = record {
       numbered = λ h q. ap numberIn (alike h .answer q) ∙ D .numbered h q ∙ sym (alike h .number q);
       each-read = λ h c k e. let g = D .each-read h c k (sym (alike h .number _) ∙ e) in (g .0, got-from (g .1));
-      each-write = λ h c k value e. let w = D .each-write h c k value (sym (alike h .number _) ∙ e) in (w .0, wrote-from (w .1));
+      each-write = λ h c k p e. let w = D .each-write h c k p (sym (alike h .number _) ∙ e) in (w .0, wrote-from (w .1));
       crew-rises = λ l h c x hc hx. both (alike h .crew c x hc hx) (alike (l ++ h) .crew c x hc hx) (D .crew-rises l h c x hc hx);
       hidden = λ h d k hd hk. cover h d k hd (alike h .store d k hd hk) (D .hidden h d k hd hk);
       seen-first = λ h d s r x hd hs hr hx n. both (alike h .stable d s x hd hs hx) (alike h .seen d r x hd hr hx n) (D .seen-first h d s r x hd hs hr hx n);
@@ -193,6 +193,8 @@ module _ {π : Counts} {S T : System} (f : Follows π S T) where
         (L .beats l h d s q c w hd hs (sym (alike h .number _) ∙ e) (wrote-to t) o k);
     dated = λ h w m. L .dated h w (made-to m);
     stores-dated = λ h d k hd hk. subst Dated (sym (alike h .store d k hd hk)) (L .stores-dated h d k hd hk);
+    carded = λ h w m. L .carded h w (made-to m);
+    stores-carded = λ h d k hd hk. subst Carded (sym (alike h .store d k hd hk)) (L .stores-carded h d k hd hk);
   }
 
   -- ---- moves

@@ -8,6 +8,7 @@ use mathlib.Core.List.{List}
 use Rattle.loops.proofs.BoolLaws.{eq-or-ne}
 use Rattle.model.specs.Parts.{Counts, State, setShelf, setCrew, setHome}
 use Rattle.model.specs.Rules.{settle, keep, emit, send}
+use Rattle.paper.specs.declared.answer.Payload.{Payload}
 use Rattle.paper.specs.Calls.{Call, read, write, tick, take, refresh, move}
 use Rattle.model.specs.Calls.{shelfOf, refusal, reading, acted}
 use Rattle.model.specs.System.{ofModel, run}
@@ -49,9 +50,9 @@ module _ (π : Counts) (homes : List ℕ) where
 
   pub waiting : SetUp π homes → (g h : List Call) (c : ℕ)
       → Rounds π (ofModel π homes) (run π homes g .crew c (run π homes g .home c) - lowestClock π (ofModel π homes) g (run π homes g .home c)) g h → Silent (ofModel π homes) c g h
-      → (k value : ℕ) → refusal π (run π homes h) (write c k value) ≡ 8 → ⊥
+      → (k : ℕ) (p : Payload) → refusal π (run π homes h) (write c k p) ≡ 8 → ⊥
   unfolding Reached
-  waiting u g h c r quiet k value = no-wait π (run π homes h) c k value (λ hc.
+  waiting u g h c r quiet k p = no-wait π (run π homes h) c k p (λ hc.
       let rests = inv π homes u g .sound .crews c hc in
       let same = silent-crew quiet in
       let top = rests .top (run π homes g .home c) (rests .depot) in

@@ -7,6 +7,8 @@ use lib.Dec.{eqb, ltb, leb}
 use lib.ListN.{length, getD}
 use Rattle.paper.specs.Calls.{lastDay, Call, read, write, tick, take, refresh, move, Told, read-value, read-unwritten, Answer, refused, done, reads, current, superseded, first}
 use Rattle.loops.specs.Loops.{every, pick}
+use Rattle.card.specs.Card.{cardFit}
+use Rattle.paper.specs.declared.answer.Payload.{Payload}
 use Rattle.order.specs.Vector.{Vec, merged, zeros, covered}
 use Rattle.order.specs.Order.{above}
 use Rattle.model.specs.Parts.{mostDepots, mostShelves, mostBearings, mostCrews}
@@ -25,7 +27,7 @@ entries (suc i) u = entries i u ++ (u i ∷ [])
 
 -- what is told of the stored version v, with n depots
 unfoldable pub told : ℕ → Version → Told
-told n v = pick (zeros n (v .vector)) (read-unwritten (entries n (v .vector))) (read-value (v .value) (entries n (v .vector)))
+told n v = pick (zeros n (v .vector)) (read-unwritten (entries n (v .vector))) (read-value (v .payload) (entries n (v .vector)))
 
 -- no untaken message
 unfoldable pub none : List Message → Bool
@@ -56,9 +58,9 @@ module _ (π : Counts) where
   answered c k σ = homeShelf c k σ .store k
 
   -- the version that a write makes: the crew's vector, with the home entry set to the new clock
-  unfoldable pub made : ℕ → ℕ → ℕ → State → Version
-  made c k value σ = record {
-    value = value;
+  unfoldable pub made : ℕ → ℕ → Payload → State → Version
+  made c k p σ = record {
+    payload = p;
     origin = σ .home c;
     vector = put (σ .home c) (suc (σ .shelf (σ .home c) (shelfOf k) .clock)) (σ .crew c);
   }
@@ -73,14 +75,15 @@ module _ (π : Counts) where
       ((leb (π .crews) c, 5)
       ∷ ((leb (π .bearings) k, 4)
       ∷ []))
-  refusal σ (write c k value) = first
+  refusal σ (write c k p) = first
       ((leb (π .crews) c, 5)
       ∷ ((leb (π .bearings) k, 4)
-      ∷ ((ltb lastDay value, 16)
+      ∷ ((ltb lastDay (p .value), 16)
+      ∷ ((not (cardFit (p .diameter) (p .width)), 14)
       ∷ ((ltb (σ .shelf (σ .home c) (shelfOf k) .clock) (σ .crew c (σ .home c)), 8)
       ∷ ((leb end (σ .shelf (σ .home c) (shelfOf k) .clock), 10)
       ∷ ((not (roomy π (σ .home c) (shelfOf k) σ), 9)
-      ∷ []))))))
+      ∷ [])))))))
   refusal σ (tick d s) = first
       ((leb (π .depots) d, 2)
       ∷ ((leb (π .shelves) s, 3)
@@ -113,10 +116,10 @@ module _ (π : Counts) where
   -- what a call answers and does where it is not refused
   unfoldable pub acted : State → Call → Outcome
   acted σ (read c k) = reading c k σ (homeShelf c k σ)
-  acted σ (write c k value) =
+  acted σ (write c k p) =
       let d = σ .home c in
       let s = shelfOf k in
-      let v = made c k value σ in
+      let v = made c k p σ in
       let w : Write = record { bearing = k; version = v } in
       record {
         answer = pick (above (π .depots) (rank v) (rank (answered c k σ))) (current (v .vector d)) (superseded (v .vector d));

@@ -8,7 +8,7 @@ use Rattle.model.specs.Parts.{fresh}
 use Rattle.model.specs.Calls.{answers}
 use Rattle.model.specs.System.{after}
 use Rattle.model.specs.Demands.{Silent, Rounds, lowestClock}
-use Rattle.model.specs.Cases.{counts, homes, pair}
+use Rattle.model.specs.Cases.{counts, homes, day, pair}
 use Rattle.model.specs.Words.{allRefreshed, allTicked, twice, waitedTwice, duo, numberAfter}
 
 -- crew 0, at home in depot 0, has written twice on shelf 0, and asks for depot 1
@@ -24,13 +24,13 @@ waitedThrice = allTicked ++ (allRefreshed ++ ((take 0 1 1 ∷ (take 0 0 1 ∷ (t
 -- so is depot 0, on whose own entry nothing hangs, once it has seen the 30
 unfoldable pub caseMove : List Call
 caseMove =
-    write 0 0 20 ∷ (move 0 1 ∷ (move 0 0 ∷ (move 2 2 ∷ (move 0 2 ∷ (take 1 0 0 ∷ (move 0 1 ∷ (tick 0 1 ∷ (take 1 1 0 ∷ (move 0 1
-    ∷ (read 0 0 ∷ (write 0 0 30 ∷ (read 0 0 ∷ (move 0 0 ∷ (tick 1 1 ∷ (take 0 0 1 ∷ (take 0 1 1 ∷ (move 0 0 ∷ (read 0 0 ∷ []))))))))))))))))))
+    write 0 0 (day 20) ∷ (move 0 1 ∷ (move 0 0 ∷ (move 2 2 ∷ (move 0 2 ∷ (take 1 0 0 ∷ (move 0 1 ∷ (tick 0 1 ∷ (take 1 1 0 ∷ (move 0 1
+    ∷ (read 0 0 ∷ (write 0 0 (day 30) ∷ (read 0 0 ∷ (move 0 0 ∷ (tick 1 1 ∷ (take 0 0 1 ∷ (take 0 1 1 ∷ (move 0 0 ∷ (read 0 0 ∷ []))))))))))))))))))
 
 unfoldable pub caseMoveAnswers : List Answer
 caseMoveAnswers =
     current 1 ∷ (refused 12 ∷ (done ∷ (refused 5 ∷ (refused 2 ∷ (done ∷ (refused 12 ∷ (done ∷ (done ∷ (done
-    ∷ (reads (read-value 20 (pair 1 0)) ∷ (current 1 ∷ (reads (read-value 30 (pair 1 1)) ∷ (refused 12 ∷ (done ∷ (done ∷ (done ∷ (done ∷ (reads (read-value 30 (pair 1 1)) ∷ []))))))))))))))))))
+    ∷ (reads (read-value (day 20) (pair 1 0)) ∷ (current 1 ∷ (reads (read-value (day 30) (pair 1 1)) ∷ (refused 12 ∷ (done ∷ (done ∷ (done ∷ (done ∷ (reads (read-value (day 30) (pair 1 1)) ∷ []))))))))))))))))))
 
 pub record MoveCase : Type 0 where
   -- crew 0 has to wait for three rounds; two are not enough

@@ -8,6 +8,7 @@ use lib.ListN.{getD}
 use Rattle.loops.specs.Loops.{times, pick}
 use Rattle.order.specs.Vector.{Vec}
 use Rattle.order.specs.Order.{Rank, above}
+use Rattle.paper.specs.declared.answer.Payload.{Payload}
 
 -- D depots, P shelves in each, K bearings, C crews, all numbered from 0
 pub record Counts : Type 0 where
@@ -49,9 +50,9 @@ lowest n f = times n (λ i m. min m (f i)) end
 unfoldable pub other : ℕ → ℕ → ℕ → Bool
 other n d x = ltb x n && not (eqb x d)
 
--- a version: value, origin depot, vector; its bearing stands beside it
+-- a version: payload (value and card), origin depot, vector; its bearing stands beside it
 pub record Version : Type 0 where
-  pub value : ℕ
+  pub payload : Payload
   pub origin : ℕ
   pub vector : Vec
 
@@ -62,9 +63,12 @@ stamp v = v .vector (v .origin)
 abbrev pub rank : Version → Rank
 rank v = record { vector = v .vector; origin = v .origin }
 
--- an unwritten bearing has the zero vector
+-- an unwritten bearing has the zero vector, and no card: 0 is no length
+abbrev pub nothing : Payload
+nothing = record { value = 0; diameter = 0; width = 0 }
+
 unfoldable pub unwritten : Version
-unwritten = record { value = 0; origin = 0; vector = λ x. 0 }
+unwritten = record { payload = nothing; origin = 0; vector = λ x. 0 }
 
 -- b where it is greater, else a
 unfoldable pub greater : ℕ → Version → Version → Version

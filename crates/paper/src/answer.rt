@@ -15,6 +15,7 @@ pub enum Refusal {
     BadCounts,
     NotHereYet,
     BadDate,
+    BadCard,
 }
 
 // The answer of a setup, a tick, a take, a refresh or a move.
@@ -23,9 +24,16 @@ pub enum Answer {
     Refused(Refusal),
 }
 
-// What a read finds: a value, or that the bearing is unwritten.
+// What is written of a bearing: the value, which is a day, and its card as two words, the bits of the outside diameter and of the width.
+pub struct Payload {
+    pub value: u32,
+    pub diameter: u32,
+    pub width: u32,
+}
+
+// What a read finds: a value with its card, or that the bearing is unwritten.
 pub enum Finding {
-    Value(u32),
+    Value(Payload),
     Unwritten,
     Refused(Refusal),
 }
@@ -47,7 +55,7 @@ pub enum WriteAnswer {
 // What any request comes to.
 pub enum Outcome {
     Done,
-    Value(u32),
+    Value(Payload),
     Unwritten,
     Current(u32),
     Superseded(u32),

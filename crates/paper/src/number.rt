@@ -24,6 +24,7 @@ pub fn number_of(r: Refusal) -> u32
         Refusal::BadCounts => 11,
         Refusal::NotHereYet => 12,
         Refusal::BadDate => 16,
+        Refusal::BadCard => 14,
     }
 }
 

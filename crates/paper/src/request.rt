@@ -1,4 +1,5 @@
 // What is asked: a setup or a call, with its numbers.
+use crate::answer::Payload;
 ghost use mathlib.Core.Path.{_≡_};
 ghost use lib.ListN.{getD};
 ghost use Rattle.paper.specs.Requests.{requestIn, homesIn};
@@ -31,7 +32,7 @@ pub enum Request {
     Write {
         crew: u32,
         bearing: u32,
-        value: u32,
+        payload: Payload,
     },
     Tick {
         depot: u32,
@@ -70,6 +71,7 @@ pub fn request_of(event: Event, numbers: &[u32]) -> Request
     let second = number_at(numbers, 1);
     let third = number_at(numbers, 2);
     let fourth = number_at(numbers, 3);
+    let fifth = number_at(numbers, 4);
     match event {
         Event::Setup => Request::Setup {
             depots: first,
@@ -84,7 +86,11 @@ pub fn request_of(event: Event, numbers: &[u32]) -> Request
         Event::Write => Request::Write {
             crew: first,
             bearing: second,
-            value: third,
+            payload: Payload {
+                value: third,
+                diameter: fourth,
+                width: fifth,
+            },
         },
         Event::Tick => Request::Tick {
             depot: first,

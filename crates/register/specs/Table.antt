@@ -8,6 +8,8 @@ use lib.Dec.{eqb, ltb, leb}
 use lib.ListN.{length, getD}
 use Rattle.loops.specs.Loops.{every}
 use Rattle.order.specs.Vector.{covered}
+use Rattle.card.specs.Card.{cardFit}
+use Rattle.paper.specs.declared.answer.Payload.{Payload}
 use Rattle.paper.specs.Calls.{lastDay, first}
 use Rattle.book.specs.declared.parts.Counts.{Counts}
 use Rattle.book.specs.Layout.{end, bookWords, countsOf, home, crewVector, clock, linkOf, held, taken}
@@ -35,13 +37,14 @@ readNumber l c k = first
     ∷ (leb (countsOf l .bearings) k, 4)
     ∷ [])
 
--- write, by crew c of bearing k: a value past the last day is no date
-unfoldable pub writeNumber : List ℕ → ℕ → ℕ → ℕ → ℕ
-writeNumber l c k value = first
+-- write, by crew c of bearing k: a value past the last day is no date, and not every two words are a card
+unfoldable pub writeNumber : List ℕ → ℕ → ℕ → Payload → ℕ
+writeNumber l c k payload = first
     ((not (writeFit l c k), 1)
     ∷ (leb (countsOf l .crews) c, 5)
     ∷ (leb (countsOf l .bearings) k, 4)
-    ∷ (ltb lastDay value, 16)
+    ∷ (ltb lastDay (payload .value), 16)
+    ∷ (not (cardFit (payload .diameter) (payload .width)), 14)
     ∷ (ltb (clock l (home l c) (shelfOf l k)) (crewVector l c (home l c)), 8)
     ∷ (leb end (clock l (home l c) (shelfOf l k)), 10)
     ∷ (not (roomy (countsOf l .depots) (home l c) (shelfOf l k) l), 9)

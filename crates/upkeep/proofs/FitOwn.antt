@@ -10,6 +10,7 @@ use lib.Dec.{leb, eqb}
 use borrow.Author.Tests.{leb-true, leb-false, le-leb, ltb-true, lt-ltb, eqb-true, eqb-false, eq-eqb}
 use Rattle.loops.proofs.BoolLaws.{and-left, and-right, and-intro, pick-true}
 use Rattle.loops.proofs.LoopLaws.{every-intro}
+use Rattle.paper.specs.declared.answer.Payload.{Payload}
 use Rattle.paper.specs.Calls.{Call, read, write, tick, take, refresh, move}
 use Rattle.book.specs.declared.parts.Counts.{Counts}
 use Rattle.book.specs.Layout.{countsOf}
@@ -24,14 +25,14 @@ use Rattle.register.specs.Promises.{after}
 use Rattle.register.proofs.FitParts.{whole-open, whole-close, link-open, link-close}
 use Rattle.register.proofs.Numbers.{tick-done, take-done, refresh-done, read-done, write-done}
 use Rattle.upkeep.specs.Requests.{Request, setup, call, numberAt, changedBy, bookAfter, last}
-use Rattle.upkeep.specs.Own.{Part, theLength, theCounts, aHome, aCrew, aClock, aStable, aStamp, aHead, aLink, aStored, Named, fitPart, Fits, fitFor}
+use Rattle.upkeep.specs.Own.{Part, theLength, theCounts, aHome, aCrew, aClock, aStable, aStamp, aHead, aWaiting, aLink, aStored, Named, fitPart, Fits, fitFor}
 use Rattle.upkeep.proofs.FitFrame.{Keeps, counts-same}
 use Rattle.upkeep.proofs.FitMove.{Leaves, keeps-leaves, move-leaves, move-own}
 use Rattle.upkeep.proofs.FitKept.{crew-open, tick-asked, take-asked, refresh-asked, read-asked, write-asked}
 use Rattle.upkeep.proofs.FitKept.{tick-keeps, take-keeps, refresh-settles, read-settles}
 use Rattle.upkeep.proofs.FitWrite.{write-settles}
 use Rattle.upkeep.proofs.FitSetup.{length-set-up, setup-fit}
-use Rattle.upkeep.proofs.FitOwnParts.{or-on, stable-open, stable-close, head-close}
+use Rattle.upkeep.proofs.FitOwnParts.{or-on, stable-open, stable-close, head-close, waiting-close}
 use Rattle.upkeep.proofs.FitOwnParts.{base-kept, tick-kept, take-kept, refresh-kept, read-kept, write-kept}
 
 -- ---- a book is fit exactly if each of its parts is
@@ -47,6 +48,9 @@ fit-parts l F (aStable d s) k = let h = whole-open l F .parts .shelves d s (k .0
 fit-parts l F (aStamp d s from) k = le-leb _ _ (whole-open l F .parts .shelves d s (k .0) (k .1) .seens from (k .2) (k .3))
 fit-parts l F (aHead s from to) k =
     let h = whole-open l F .parts .links s from to (k .0) (k .1) (k .2) (k .3) in head-close l _ (record { room = h .room; first = h .first })
+fit-parts l F (aWaiting s from to) k =
+    let h = whole-open l F .parts .links s from to (k .0) (k .1) (k .2) (k .3) in
+    waiting-close _ l s from _ (record { room = h .room; first = h .first; messages = h .messages })
 fit-parts l F (aLink s from to) k = link-close _ l s from _ (whole-open l F .parts .links s from to (k .0) (k .1) (k .2) (k .3))
 fit-parts l F (aStored d b) k = whole-open l F .parts .stores d b (k .0) (k .1)
 
@@ -82,7 +86,7 @@ parts-fit l h =
 call-keeps : (l : List ℕ) (q : Call) → numberAt l (call q) ≡ 0 → Leaves (countsOf l) l (changedBy l (call q))
 unfolding numberAt changedBy
 call-keeps l (read c k) h = keeps-leaves (countsOf l) l _ (read-asked l c k (read-done l c k h) .0 .within) (read-settles l c k h .keeps)
-call-keeps l (write c k value) h = keeps-leaves (countsOf l) l _ (write-asked l c k (write-done l c k value h) .0 .within) (write-settles l c k value h .keeps)
+call-keeps l (write c k payload) h = keeps-leaves (countsOf l) l _ (write-asked l c k (write-done l c k payload h) .0 .within) (write-settles l c k payload h .keeps)
 call-keeps l (tick d s) h = keeps-leaves (countsOf l) l _ (tick-asked l d s (tick-done l d s h) .0 .within) (tick-keeps l d s h)
 call-keeps l (take d s from) h = keeps-leaves (countsOf l) l _ (take-asked l d s from (take-done l d s from h) .0 .within) (take-keeps l d s from h)
 call-keeps l (refresh d s) h = keeps-leaves (countsOf l) l _ (refresh-asked l d s (refresh-done l d s h) .0 .within) (refresh-settles l d s h .keeps)
@@ -161,11 +165,11 @@ read-own l c k h =
     (λ W. or-on (leb _ c) _ λ a. or-on (leb _ k) _ λ b.
     read-kept (countsOf l) l _ W c k (t .crew) (t .bearing) (read-asked l c k t .0 .homes c (t .crew)) S) (t .fits)
 
-write-own : (l : List ℕ) (c k value : ℕ) → writeNumber l c k value ≡ 0 → writeFit (writeBook l c k value) c k ≡ true
+write-own : (l : List ℕ) (c k : ℕ) (payload : Payload) → writeNumber l c k payload ≡ 0 → writeFit (writeBook l c k payload) c k ≡ true
 unfolding writeFit
-write-own l c k value h =
-    let S = write-settles l c k value h in
-    let t = write-done l c k value h in
+write-own l c k payload h =
+    let S = write-settles l c k payload h in
+    let t = write-done l c k payload h in
     passes l _ (λ n v. leb (n .crews) c || (leb (n .bearings) k || writeParts n v c k)) (S .keeps)
     (λ W. or-on (leb _ c) _ λ a. or-on (leb _ k) _ λ b.
     write-kept (countsOf l) l _ W c k (t .crew) (t .bearing) (write-asked l c k t .0 .homes c (t .crew)) S) (t .fits)
@@ -174,7 +178,7 @@ done-own : (l : List ℕ) (r : Request) → numberAt l r ≡ 0 → fitFor (chang
 unfolding numberAt changedBy fitFor
 done-own l (setup n homes) h = eq-eqb _ _ (length-set-up n homes)
 done-own l (call (read c k)) h = read-own l c k h
-done-own l (call (write c k value)) h = write-own l c k value h
+done-own l (call (write c k payload)) h = write-own l c k payload h
 done-own l (call (tick d s)) h = tick-own l d s h
 done-own l (call (take d s from)) h = take-own l d s from h
 done-own l (call (refresh d s)) h = refresh-own l d s h

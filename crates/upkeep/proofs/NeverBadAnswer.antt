@@ -49,7 +49,7 @@ done-number : (l : List ℕ) (r : Request) → numberIn (doneAnswer l r) ≡ 0
 unfolding doneAnswer numberIn
 done-number l (setup n homes) = refl
 done-number l (call (read c k)) = refl
-done-number l (call (write c k value)) = written-done _ _
+done-number l (call (write c k payload)) = written-done _ _
 done-number l (call (tick d s)) = refl
 done-number l (call (take d s from)) = refl
 done-number l (call (refresh d s)) = refl

@@ -54,11 +54,12 @@ pub fits-number : (l : List ℕ) (r : Request) → fitFor l r ≡ true → numbe
 unfolding fitFor numberAt setupNumber readNumber writeNumber tickNumber takeNumber refreshNumber moveNumber
 fits-number l (setup n homes) h = first-other _ _ (ap not h) (later-other _ 11 _ (omega arith) (later-other _ 2 _ (omega arith) none-other))
 fits-number l (call (read c k)) h = first-other _ _ (ap not h) (later-other _ 5 _ (omega arith) (later-other _ 4 _ (omega arith) none-other))
-fits-number l (call (write c k value)) h =
+fits-number l (call (write c k payload)) h =
     first-other _ _ (ap not h)
     (later-other _ 5 _ (omega arith)
     (later-other _ 4 _ (omega arith)
-    (later-other _ 16 _ (omega arith) (later-other _ 8 _ (omega arith) (later-other _ 10 _ (omega arith) (later-other _ 9 _ (omega arith) none-other))))))
+    (later-other _ 16 _ (omega arith)
+    (later-other _ 14 _ (omega arith) (later-other _ 8 _ (omega arith) (later-other _ 10 _ (omega arith) (later-other _ 9 _ (omega arith) none-other)))))))
 fits-number l (call (tick d s)) h =
     first-other _ _ (ap not h)
     (later-other _ 2 _ (omega arith) (later-other _ 3 _ (omega arith) (later-other _ 10 _ (omega arith) (later-other _ 9 _ (omega arith) none-other))))
@@ -74,7 +75,7 @@ pub unfit-number : (l : List ℕ) (r : Request) → fitFor l r ≡ false → num
 unfolding fitFor numberAt setupNumber readNumber writeNumber tickNumber takeNumber refreshNumber moveNumber first
 unfit-number l (setup n homes) h = pick-true _ _ (ap not h)
 unfit-number l (call (read c k)) h = pick-true _ _ (ap not h)
-unfit-number l (call (write c k value)) h = pick-true _ _ (ap not h)
+unfit-number l (call (write c k payload)) h = pick-true _ _ (ap not h)
 unfit-number l (call (tick d s)) h = pick-true _ _ (ap not h)
 unfit-number l (call (take d s from)) h = pick-true _ _ (ap not h)
 unfit-number l (call (refresh d s)) h = pick-true _ _ (ap not h)
@@ -89,7 +90,7 @@ pub fit-for : (l : List ℕ) → fit l ≡ true → (r : Request) → fitFor l r
 unfolding fitFor
 fit-for l h (setup n homes) = eq-eqb (length l) bookWords (fit-open l h .full)
 fit-for l h (call (read c k)) = fit-read l h c k
-fit-for l h (call (write c k value)) = fit-write l h c k
+fit-for l h (call (write c k payload)) = fit-write l h c k
 fit-for l h (call (tick d s)) = fit-tick l h d s
 fit-for l h (call (take d s from)) = fit-take l h d s from
 fit-for l h (call (refresh d s)) = fit-refresh l h d s

@@ -4,6 +4,7 @@ use Prim.Native.Nat.{ℕ}
 use mathlib.Core.Path.{_≡_, sym, _∙_}
 use mathlib.Core.List.{List}
 use Rattle.book.specs.declared.parts.Counts.{Counts}
+use Rattle.paper.specs.declared.answer.Payload.{Payload}
 use Rattle.paper.specs.declared.answer.Answer.{Answer}
 use Rattle.paper.specs.declared.answer.ReadAnswer.{ReadAnswer}
 use Rattle.paper.specs.declared.answer.WriteAnswer.{WriteAnswer}
@@ -16,8 +17,8 @@ setup-unique l n homes p q = (plain-settles _ _ (p .answer ∙ sym (q .answer)),
 pub read-unique : (l : List ℕ) (c k : ℕ) {r r′ : ReadAnswer} {m m′ : List ℕ} → Read l c k r m → Read l c k r′ m′ → (r ≡ r′) × (m ≡ m′)
 read-unique l c k p q = (read-settles _ _ (p .answer ∙ sym (q .answer)) (p .holds) (q .holds), p .book ∙ sym (q .book))
 
-pub write-unique : (l : List ℕ) (c k value : ℕ) {r r′ : WriteAnswer} {m m′ : List ℕ} → Write l c k value r m → Write l c k value r′ m′ → (r ≡ r′) × (m ≡ m′)
-write-unique l c k value p q = (written-settles _ _ (p .answer ∙ sym (q .answer)), p .book ∙ sym (q .book))
+pub write-unique : (l : List ℕ) (c k : ℕ) (payload : Payload) {r r′ : WriteAnswer} {m m′ : List ℕ} → Write l c k payload r m → Write l c k payload r′ m′ → (r ≡ r′) × (m ≡ m′)
+write-unique l c k payload p q = (written-settles _ _ (p .answer ∙ sym (q .answer)), p .book ∙ sym (q .book))
 
 pub tick-unique : (l : List ℕ) (d s : ℕ) {r r′ : Answer} {m m′ : List ℕ} → Tick l d s r m → Tick l d s r′ m′ → (r ≡ r′) × (m ≡ m′)
 tick-unique l d s p q = (plain-settles _ _ (p .answer ∙ sym (q .answer)), p .book ∙ sym (q .book))

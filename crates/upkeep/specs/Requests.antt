@@ -3,6 +3,7 @@
 -- Assumes nothing.
 use Prim.Native.Nat.{ℕ}
 use mathlib.Core.List.{List, [], _∷_}
+use Rattle.paper.specs.declared.answer.Payload.{Payload}
 use Rattle.paper.specs.Calls.{Call, read, write, tick, take, refresh, move, Answer, done, reads, answerBy}
 use Rattle.paper.specs.Answers.{paper, paperRead, paperWrite}
 use Rattle.paper.specs.declared.answer.Answer as plain
@@ -24,7 +25,7 @@ pub data Request : Type 0 where
 unfoldable pub numberAt : List ℕ → Request → ℕ
 numberAt l (setup n homes) = setupNumber l n homes
 numberAt l (call (read c k)) = readNumber l c k
-numberAt l (call (write c k value)) = writeNumber l c k value
+numberAt l (call (write c k payload)) = writeNumber l c k payload
 numberAt l (call (tick d s)) = tickNumber l d s
 numberAt l (call (take d s from)) = takeNumber l d s from
 numberAt l (call (refresh d s)) = refreshNumber l d s
@@ -34,7 +35,7 @@ numberAt l (call (move c d)) = moveNumber l c d
 unfoldable pub doneAnswer : List ℕ → Request → Answer
 doneAnswer l (setup n homes) = done
 doneAnswer l (call (read c k)) = reads (told (countsOf l .depots) (readRecord l c k))
-doneAnswer l (call (write c k value)) = written (newStamp l c k) (isCurrent l c k value)
+doneAnswer l (call (write c k payload)) = written (newStamp l c k) (isCurrent l c k payload)
 doneAnswer l (call (tick d s)) = done
 doneAnswer l (call (take d s from)) = done
 doneAnswer l (call (refresh d s)) = done
@@ -48,7 +49,7 @@ replyTo l r = answerBy (numberAt l r) (doneAnswer l r)
 unfoldable pub changedBy : List ℕ → Request → List ℕ
 changedBy l (setup n homes) = setUp n homes
 changedBy l (call (read c k)) = readBook l c k
-changedBy l (call (write c k value)) = writeBook l c k value
+changedBy l (call (write c k payload)) = writeBook l c k payload
 changedBy l (call (tick d s)) = tickBook l d s
 changedBy l (call (take d s from)) = takeBook l d s from
 changedBy l (call (refresh d s)) = refreshBook l d s
@@ -62,7 +63,7 @@ bookAfter l r = after (numberAt l r) (changedBy l r) l
 pub data Called (l l′ : List ℕ) : Request → Answer → Type 0 where
   set-up : {n : Counts} {homes : List ℕ} {r : plain.Answer} → Setup l n homes r l′ → Called l l′ (setup n homes) (paper r)
   did-read : {c k : ℕ} {r : ReadAnswer} → Read l c k r l′ → Called l l′ (call (read c k)) (paperRead r)
-  did-write : {c k value : ℕ} {r : WriteAnswer} → Write l c k value r l′ → Called l l′ (call (write c k value)) (paperWrite r)
+  did-write : {c k : ℕ} {payload : Payload} {r : WriteAnswer} → Write l c k payload r l′ → Called l l′ (call (write c k payload)) (paperWrite r)
   ticked : {d s : ℕ} {r : plain.Answer} → Tick l d s r l′ → Called l l′ (call (tick d s)) (paper r)
   took : {d s from : ℕ} {r : plain.Answer} → Take l d s from r l′ → Called l l′ (call (take d s from)) (paper r)
   refreshed : {d s : ℕ} {r : plain.Answer} → Refresh l d s r l′ → Called l l′ (call (refresh d s)) (paper r)

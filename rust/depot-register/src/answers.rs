@@ -124,3 +124,19 @@ impl Written {
         }
     }
 }
+
+/// Which depots store a depot's present version of a bearing or a greater one.
+#[derive(Clone, Copy, Debug, PartialEq, Eq, Hash)]
+pub struct Holders {
+    /// Bit d for depot d.
+    pub mask: u32,
+    /// How many bits are set.
+    pub count: u32,
+}
+
+impl Holders {
+    /// Whether this depot has it.
+    pub fn includes(self, depot: crate::Depot) -> bool {
+        self.mask.checked_shr(depot.0).unwrap_or(0) & 1 == 1
+    }
+}

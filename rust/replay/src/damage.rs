@@ -13,6 +13,7 @@ use crate::lines;
 use crate::parts::{looks, pieces, Call, Named};
 use crate::random::Random;
 use crate::register::{Register, Straight};
+use crate::values;
 use straight::calendar::LAST_DAY;
 use straight::layout::*;
 use straight::Counts;
@@ -123,7 +124,7 @@ fn event(random: &mut Random, n: Counts, kind: usize) -> Event {
     let (depot, shelf, from) = (below(random, n.depots), below(random, n.shelves), below(random, n.depots));
     match kind {
         0 => Event::Read { crew, bearing },
-        1 => Event::Write { crew, bearing, value: below(random, 100) },
+        1 => Event::Write { crew, bearing, value: below(random, 100), card: values::card(random) },
         2 => Event::Tick { depot, shelf },
         3 => Event::Take { depot, shelf, from },
         4 => Event::Refresh { depot, shelf },
@@ -132,7 +133,7 @@ fn event(random: &mut Random, n: Counts, kind: usize) -> Event {
 }
 
 /// For a book, each call once, done if there is one that can be; one with a number out of range, by the kind of the book; the
-/// write of a day beyond the calendar; and a line.
+/// writes of a day beyond the calendar and of no card; and a line.
 fn calls(random: &mut Random, book: &[u32], kind: usize) -> Vec<Called> {
     let n = Counts::of(book);
     let done = |event: &Event| Step::new(event.clone()).run(&Straight, &mut book.to_vec()).number == 0;
@@ -153,11 +154,12 @@ fn calls(random: &mut Random, book: &[u32], kind: usize) -> Vec<Called> {
     events.push(match kind {
         0 => Event::Read { crew: 0, bearing: n.bearings as u32 },
         1 => Event::Take { depot: 0, shelf: 0, from: 0 },
-        2 => Event::Move { crew: 0, depot: n.depots as u32 },
+        2 => Event::Move { crew: 0, depot: n.depots as u32, card: [0, 0] },
         _ => Event::Tick { depot: 0, shelf: n.shelves as u32 },
     });
-    if let Event::Write { crew, bearing, .. } = events[1] {
-        events.push(Event::Write { crew, bearing, value: LAST_DAY + 1 });
+    if let Event::Write { crew, bearing, card, .. } = events[1] {
+        events.push(Event::Write { crew, bearing, value: LAST_DAY + 1, card });
+        events.push(Event::Write { crew, bearing, value: LAST_DAY, card: [card[0], 0] });
     }
     let line = random.choose(&[0, 1, 2, 3, 4]);
     let text = lines::text(&events[line]);
@@ -308,7 +310,7 @@ mod tests {
             let book = book(&mut random, kind);
             let mut messages = Vec::new();
             for piece in pieces(Counts::of(&book)) {
-                if let Piece::Messages { shelf, from, to } = piece {
+                if let Piece::Head { shelf, from, to } = piece {
                     let link = link(shelf, from, to);
                     let place = |place| (place < book[taken(link)] as usize, book[slot(link, place)]);
                     messages.extend((0..book[held(link)] as usize).map(place));
