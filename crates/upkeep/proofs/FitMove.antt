@@ -83,7 +83,8 @@ module _ (n : Counts) (l : List ℕ) (W : Within n) (full : length l ≡ bookWor
       stable-close n after e s (stable-same n l after W e s x y (λ j u v. past j (omega arith) (omega arith)) (stable-open n l e s h))
   set-part (aStamp e s from) k h = le-leb _ _ (stamp-same n l after W e s (k .0) (k .1) (λ j u v. past j (omega arith) (omega arith)) from (k .2) (leb-true _ _ h))
   set-part (aHead s from to) k h = head-close after _ (link s from to (k .0) (k .1) (k .2) .head (head-open l _ h))
-  set-part (aWaiting s from to) k h = waiting-close n after s from _ (waiting-kept n l after s from _ (link s from to (k .0) (k .1) (k .2)) (waiting-open n l s from _ h))
+  set-part (aWaiting s from to) k h =
+      waiting-close n after s from _ (waiting-kept n l after s from _ (link s from to (k .0) (k .1) (k .2)) (waiting-open n l s from _ h))
   set-part (aLink s from to) k h = link-close n after s from _ (link-kept n l after s from _ (link s from to (k .0) (k .1) (k .2)) (link-open n l s from _ h))
   set-part (aStored e b) k h =
       let a = W .depots in
