@@ -38,7 +38,10 @@ fn tell(out: &mut [u32], reply: Reply)
     let outcome = reply.outcome;
     let v = reply.vector;
     match outcome {
-        Outcome::Value(p) => fill(out, &[1, p.value, p.diameter, p.width, v[0], v[1], v[2], v[3]]),
+        Outcome::Value(p) => fill(
+            out,
+            &[1, p.value, p.diameter, p.width, v[0], v[1], v[2], v[3]],
+        ),
         Outcome::Unwritten => fill(out, &[0, 0, 0, 0, v[0], v[1], v[2], v[3]]),
         Outcome::Current(stamp) => fill(out, &[stamp, 1]),
         Outcome::Superseded(stamp) => fill(out, &[stamp, 0]),
@@ -63,7 +66,13 @@ pub fn tell_read(book: &mut [u32], crew: u32, bearing: u32, out: &mut [u32]) -> 
 }
 
 // The same of a write.
-pub fn tell_write(book: &mut [u32], crew: u32, bearing: u32, payload: Payload, out: &mut [u32]) -> u32
+pub fn tell_write(
+    book: &mut [u32],
+    crew: u32,
+    bearing: u32,
+    payload: Payload,
+    out: &mut [u32],
+) -> u32
     ensures { λ r. ⌜ r ≡ inRoom writeWords (now (out .entry)) (numberAt (now (book .entry)) (call (write crew bearing payload))) noRoom ⌝ }
     ensures { λ r. ⌜ now (book .exit) ≡ inRoom writeWords (now (out .entry)) (bookAfter (now (book .entry)) (call (write crew bearing payload))) (now (book .entry)) ⌝ }
     ensures { λ r. ⌜ now (out .exit)
