@@ -3,10 +3,9 @@
 use Prim.Native.Nat.{ℕ, _+_, _-_, _<_}
 use native.Mathlib.Omega.{arith}
 use mathlib.Core.Path.{_≡_, refl, _∙_}
-use mathlib.Core.List.{List, [], _∷_, _++_}
+use mathlib.Core.List.{[], _∷_, _++_}
 use Rattle.model.specs.Parts.{fresh}
 use Rattle.model.specs.Rules.{shown, settled, settle, storing, keep}
-use Rattle.paper.specs.Calls.{Call, take}
 use Rattle.model.specs.Calls.{answers, step}
 use Rattle.model.specs.System.{after}
 use Rattle.model.specs.Demands as demands
@@ -54,7 +53,7 @@ moving : Silent duo 0 [] (asksThere ∷ []) → ⊥
 unfolding answersNow counts homes after step
 moving (demands.on s n) = n a-move refl
 
-there-and-back : answers counts (fresh homes) caseMove ≡ caseMoveAnswers
+pub there-and-back : answers counts (fresh homes) caseMove ≡ caseMoveAnswers
 unfolding answersNow dominates lawful counts homes caseMove caseMoveAnswers
 there-and-back = answers-computed counts lawful lawful-agrees (fresh homes) caseMove ∙ refl
 

@@ -1,33 +1,33 @@
 -- Moves in the model. A round's takes leave every shelf with a sender's clock as the stamp seen, so a silent crew's entries are seen everywhere one round
 -- after the clocks of its home have passed its home entry; its other entries are below the clocks of their senders from the start.
 -- Assumes nothing.
-use Prim.Native.Nat.{ℕ, suc, _+_, _-_, _≤_, _<_, min}
+use Prim.Native.Nat.{ℕ, _+_, _-_, _≤_, _<_}
 use native.Mathlib.Omega.{arith}
 use native.Mathlib.Nat.{le-trans}
 use native.Mathlib.Numerals.{add-one}
 use mathlib.Core.Path.{_≡_, refl, sym, subst, ap, _∙_}
-use mathlib.Core.Logic.{_⊎_, inl, inr, ⊎-elim}
+use mathlib.Core.Logic.{⊎-elim}
 use mathlib.Core.Bool.{Bool, true, false, _||_, not}
-use mathlib.Core.List.{List, _∷_, _++_}
+use mathlib.Core.List.{List, _∷_}
 use lib.Dec.{eqb, leb}
 use borrow.Author.Tests.{eqb-false, eq-eqb, ne-eqb, lt-leb, leb-false}
 use Rattle.loops.specs.Loops.{pick}
 use Rattle.order.specs.Vector.{Vec, covered}
-use Rattle.loops.proofs.BoolLaws.{eq-or-ne, or-left, or-right, or-next, decided, both-ways}
+use Rattle.loops.proofs.BoolLaws.{eq-or-ne, or-left, or-next, decided, both-ways}
 use Rattle.loops.proofs.LoopLaws.{every-fails}
 use Rattle.order.proofs.VectorLaws.{covered-stop}
-use Rattle.model.specs.Parts.{Counts, Write, State, put, setHome, end}
+use Rattle.model.specs.Parts.{Counts, State, put, setHome}
 use Rattle.model.specs.Rules.{lowestSeen}
 use Rattle.paper.specs.Calls.{Call, read, move, first}
 use Rattle.model.specs.Calls.{setup, shelfOf, arrived, refusal, acted}
 use Rattle.model.specs.System.{ofModel, run}
-use Rattle.model.specs.Demands.{Done, Silent, Past, kept, Round, Rounds, begin, between, round, lowestClock, Demand2}
+use Rattle.model.specs.Demands.{Silent, kept, Rounds, lowestClock}
 use Rattle.model.specs.Moves.{lowestStamp, Behind, Moves}
 use Rattle.model.proofs.Places.{put-all, put-same, put-other, Other, lowest-above}
 use Rattle.model.proofs.Chains.{chain-below}
 use Rattle.model.proofs.Invariant.{Rests}
 use Rattle.model.proofs.Refusals.{SetUp, set-up, move-passed, move-named}
-use Rattle.model.proofs.Histories.{run-done, run-refused, inv, history-grows, call-changes}
+use Rattle.model.proofs.Histories.{run-done, run-refused, inv}
 use Rattle.model.proofs.Demand2.{demand2}
 use Rattle.model.proofs.Refreshes.{Reached}
 use Rattle.model.proofs.Rounds.{rounds-see, lowest-reached, lowest-top}

@@ -1,9 +1,9 @@
 -- A crew that moves, at work: the crew that waits in the words of the demands asks for depot 1 instead. Histories have their newest call first.
 -- Assumes nothing.
-use Prim.Native.Nat.{ℕ, _+_, _-_}
+use Prim.Native.Nat.{_+_, _-_}
 use mathlib.Core.Path.{_≡_}
 use mathlib.Core.List.{List, [], _∷_, _++_}
-use Rattle.paper.specs.Calls.{Call, read, write, tick, take, refresh, move, Answer, refused, done, reads, read-value, current}
+use Rattle.paper.specs.Calls.{Call, read, write, tick, take, move, Answer, refused, done, reads, read-value, current}
 use Rattle.model.specs.Parts.{fresh}
 use Rattle.model.specs.Calls.{answers}
 use Rattle.model.specs.System.{after}

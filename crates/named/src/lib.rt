@@ -21,8 +21,8 @@ use fit::shelf::clock_fits;
 use fit::shelf::seen_fits;
 use fit::shelf::stable_fits;
 use versions::link::head_fits;
-use versions::link::link_fits;
 use versions::link::messages_fit;
+use versions::link::waiting_fit;
 use versions::version::stored_fits;
 ghost use mathlib.Core.Path.{_≡_};
 ghost use mathlib.Core.Bool.{_&&_, _||_};
@@ -95,7 +95,16 @@ pub fn take_parts_fit(book: &[u32], n: Counts, d: Depot, s: Shelf, from: Depot) 
     if END < book[seen_at(d, s) + from.index()] {
         return false;
     }
-    link_fits(book, n, s, from, Link::between(s, from, d))
+    let q = Link::between(s, from, d);
+    let count = held_of(book, q);
+    let taken = taken_of(book, q);
+    if LINK_ROOM < count {
+        return false;
+    }
+    if count < taken {
+        return false;
+    }
+    waiting_fit(book, n, s, from, q, taken, count - taken)
 }
 
 // Whether the stored version at a depot of the bearing of the copy in slot i of a link is fit.

@@ -17,7 +17,7 @@ use Rattle.book.specs.Layout.{countsOf}
 use Rattle.fit.specs.Fit.{homeFit, inRange, crewFit, clockFit, storedFit, Within, fit}
 use Rattle.named.specs.Named.{tickParts, takeParts, refreshParts, readParts, writeParts, baseFit, tickFit, takeFit, refreshFit, readFit, writeFit}
 use Rattle.fit.proofs.FitLaws.{counts-within}
-use Rattle.named.proofs.NamedLaws.{Based, base-open}
+use Rattle.named.proofs.NamedLaws.{base-open}
 use Rattle.shelf.proofs.FrameLaws.{pick-cases}
 use Rattle.register.specs.Table.{readNumber, writeNumber, tickNumber, takeNumber, refreshNumber}
 use Rattle.register.specs.Calls.{setUp, readBook, writeBook, tickBook, takeBook, refreshBook}
@@ -25,14 +25,14 @@ use Rattle.register.specs.Promises.{after}
 use Rattle.register.proofs.FitParts.{whole-open, whole-close, link-open, link-close}
 use Rattle.register.proofs.Numbers.{tick-done, take-done, refresh-done, read-done, write-done}
 use Rattle.upkeep.specs.Requests.{Request, setup, call, numberAt, changedBy, bookAfter, last}
-use Rattle.upkeep.specs.Own.{Part, theLength, theCounts, aHome, aCrew, aClock, aStable, aStamp, aHead, aLink, aStored, Named, fitPart, Fits, fitFor}
+use Rattle.upkeep.specs.Own.{Part, theLength, theCounts, aHome, aCrew, aClock, aStable, aStamp, aHead, aWaiting, aLink, aStored, Named, fitPart, Fits, fitFor}
 use Rattle.upkeep.proofs.FitFrame.{Keeps, counts-same}
 use Rattle.upkeep.proofs.FitMove.{Leaves, keeps-leaves, move-leaves, move-own}
 use Rattle.upkeep.proofs.FitKept.{crew-open, tick-asked, take-asked, refresh-asked, read-asked, write-asked}
 use Rattle.upkeep.proofs.FitKept.{tick-keeps, take-keeps, refresh-settles, read-settles}
 use Rattle.upkeep.proofs.FitWrite.{write-settles}
 use Rattle.upkeep.proofs.FitSetup.{length-set-up, setup-fit}
-use Rattle.upkeep.proofs.FitOwnParts.{or-on, stable-open, stable-close, head-close}
+use Rattle.upkeep.proofs.FitOwnParts.{or-on, stable-open, stable-close, head-close, waiting-close}
 use Rattle.upkeep.proofs.FitOwnParts.{base-kept, tick-kept, take-kept, refresh-kept, read-kept, write-kept}
 
 -- ---- a book is fit exactly if each of its parts is
@@ -48,6 +48,9 @@ fit-parts l F (aStable d s) k = let h = whole-open l F .parts .shelves d s (k .0
 fit-parts l F (aStamp d s from) k = le-leb _ _ (whole-open l F .parts .shelves d s (k .0) (k .1) .seens from (k .2) (k .3))
 fit-parts l F (aHead s from to) k =
     let h = whole-open l F .parts .links s from to (k .0) (k .1) (k .2) (k .3) in head-close l _ (record { room = h .room; first = h .first })
+fit-parts l F (aWaiting s from to) k =
+    let h = whole-open l F .parts .links s from to (k .0) (k .1) (k .2) (k .3) in
+    waiting-close _ l s from _ (record { room = h .room; first = h .first; messages = h .messages })
 fit-parts l F (aLink s from to) k = link-close _ l s from _ (whole-open l F .parts .links s from to (k .0) (k .1) (k .2) (k .3))
 fit-parts l F (aStored d b) k = whole-open l F .parts .stores d b (k .0) (k .1)
 

@@ -32,7 +32,7 @@ moves : (l : List ℕ) (c d j : ℕ) → Changed l (call (move c d)) j → j ≡
 moves l c d j (moving e) = e
 
 -- vectors that agree in every entry but one depot's
-covered-but : (n d : ℕ) (u v u′ v′ : Vec) → ((x : ℕ) → x < n → (x ≡ d → ⊥) → u x ≡ u′ x) → ((x : ℕ) → x < n → (x ≡ d → ⊥) → v x ≡ v′ x) → covered n d u v ≡ covered n d u′ v′
+pub covered-but : (n d : ℕ) (u v u′ v′ : Vec) → ((x : ℕ) → x < n → (x ≡ d → ⊥) → u x ≡ u′ x) → ((x : ℕ) → x < n → (x ≡ d → ⊥) → v x ≡ v′ x) → covered n d u v ≡ covered n d u′ v′
 unfolding covered
 covered-but n d u v u′ v′ p q = every-alike _ _ refl λ x k. or-alike refl λ e. ap₂ leb (p x k (eqb-false x d e)) (q x k (eqb-false x d e))
 

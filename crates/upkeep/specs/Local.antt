@@ -1,6 +1,6 @@
 -- Locality. What a request is answered, and every word that it writes, is settled by the words that it names; and a word that it does not write
 -- stays, whatever stands there. The words named are those of the parts in named/specs/Named.antt: lay `TickWord` beside `tickParts`, `LinkWord`
--- beside `linkFit`, and so on.
+-- beside `linkFit`, `WaitingWord` beside `waitingFit`, and so on.
 -- Assumes nothing.
 use Prim.Native.Nat.{ℕ, _+_, _*_, _-_, _%_, _≤_, _<_}
 use mathlib.Core.Path.{_≡_}
@@ -38,6 +38,11 @@ pub data LinkWord (l : List ℕ) (q j : ℕ) : Type 0 where
   of-head : In (heldAt q) 2 j → LinkWord l q j
   of-messages : headFit l q ≡ true → In (slotAt q 0) (slotWords * held l q) j → LinkWord l q j
 
+-- the same of its untaken messages alone
+pub data WaitingWord (l : List ℕ) (q j : ℕ) : Type 0 where
+  of-its-head : In (heldAt q) 2 j → WaitingWord l q j
+  of-untaken : headFit l q ≡ true → In (slotAt q (taken l q)) (slotWords * (held l q - taken l q)) j → WaitingWord l q j
+
 -- the link into shelf s of depot d from a depot and, where it is fit, the stored versions at depot d of the bearings of its taken copies
 pub data ArrivalWord (n : Counts) (l : List ℕ) (d s from j : ℕ) : Type 0 where
   of-link : LinkWord l (linkOf s from d) j → ArrivalWord n l d s from j
@@ -56,10 +61,10 @@ pub data TickWord (n : Counts) (d s j : ℕ) : Type 0 where
   of-clock : j ≡ clockAt d s → TickWord n d s j
   of-head-out : (to : ℕ) → to < n .depots → (to ≡ d → ⊥) → In (heldAt (linkOf s d to)) 2 j → TickWord n d s j
 
--- the stamp seen from that depot, and the link from there
+-- the stamp seen from that depot, and of the link from there the head and the untaken messages
 pub data TakeWord (l : List ℕ) (d s from j : ℕ) : Type 0 where
   of-seen : j ≡ seenAt d s + from → TakeWord l d s from j
-  of-sender : LinkWord l (linkOf s from d) j → TakeWord l d s from j
+  of-sender : WaitingWord l (linkOf s from d) j → TakeWord l d s from j
 
 -- the stamps seen of the other depots on all shelves of the depot, and what raise and show touches
 pub data RefreshWord (n : Counts) (l : List ℕ) (d s j : ℕ) : Type 0 where

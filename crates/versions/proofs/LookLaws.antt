@@ -1,5 +1,5 @@
--- One look over the entries is enough: the highest entry tells whether all are in range and whether all are 0, and the stamp whether the
--- origin is a depot with an entry above 0.
+-- What a look at the entries tells: the highest whether all are in range and whether all are 0, and the stamp whether the origin is a depot with an
+-- entry above 0.
 -- Assumes nothing.
 use Prim.Native.Nat.{ℕ, zero, suc, _+_, _%_, _≤_, _<_, max}
 use native.Mathlib.Nat.{le-trans, le-refl, le-step, le-max-left, le-max-right, max-le}
@@ -36,18 +36,13 @@ pub highest-more : (x : ℕ) (v : Vec) {m t : ℕ} → m ≡ highest x v → t �
 unfolding highest
 highest-more x v p q = times-more x _ _ p q
 
-pub entry-none : (o : ℕ) (v : Vec) → 0 ≡ entryOf 0 o v
-unfolding entryOf
-entry-none o v = sym (pick-false _ _ (le-ltb o 0 (omega arith)))
+-- the entry of a depot by another name
+pub entry-by : (n : ℕ) (v : Vec) {o p e : ℕ} → e ≡ entryOf n o v → o ≡ p → e ≡ entryOf n p v
+entry-by n v q r = q ∙ ap (λ (x : ℕ). entryOf n x v) r
 
-pub entry-more : (x o : ℕ) (v : Vec) {m t : ℕ} → m ≡ entryOf x o v → t ≡ pick (eqb x o) (v x) m → t ≡ entryOf (x + 1) o v
-unfolding entryOf
-entry-more x o v {m} {t} p q = go (eq-or-ne x o) (le-or-lt x o)
-  where
-    go : (x ≡ o) ⊎ (x ≡ o → ⊥) → (x ≤ o) ⊎ (o < x) → t ≡ pick (ltb o (x + 1)) (v o) 0
-    go (inl e) s = q ∙ pick-true _ _ (eq-eqb x o e) ∙ ap v e ∙ sym (pick-true _ _ (lt-ltb o (x + 1) (omega arith)))
-    go (inr n) (inl s) = q ∙ pick-false _ _ (ne-eqb x o n) ∙ p ∙ pick-false _ _ (le-ltb o x s) ∙ sym (pick-false _ _ (le-ltb o (x + 1) (omega arith)))
-    go (inr n) (inr s) = q ∙ pick-false _ _ (ne-eqb x o n) ∙ p ∙ pick-true _ _ (lt-ltb o x s) ∙ sym (pick-true _ _ (lt-ltb o (x + 1) (omega arith)))
+-- a division by a number that is a numeral
+pub mod-by : (b p : ℕ) {m : ℕ} → p ≡ m → b % m ≡ b % p
+mod-by b p e = ap (λ (x : ℕ). b % x) (sym e)
 
 -- ---- what the highest entry tells
 

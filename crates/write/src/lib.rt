@@ -69,12 +69,14 @@ fn message_of(v: Version) -> [u32; 10]
     ensures { λ r. ⌜ r ≡ copyKind ∷ versionWords v ⌝ }
 {
     let vector = v.vector;
+    let diameter = diameter_bits(v.card);
+    let width = width_bits(v.card);
     [
         COPY,
         v.bearing,
         v.value,
-        diameter_bits(v.card),
-        width_bits(v.card),
+        diameter,
+        width,
         v.origin,
         vector[0],
         vector[1],

@@ -1,6 +1,6 @@
 -- `fit::version::carried_fits` meets its contract: the tests of one look, in their order.
 -- Assumes nothing.
-use mathlib.Core.Path.{_∙_, refl, sym, ap}
+use mathlib.Core.Path.{_∙_, refl, sym, ap₂}
 use lib.Dec.{eqb}
 use borrow.Author.Needs.{needs}
 use borrow.Author.Tests.{le-leb, lt-leb, lt-ltb, le-ltb, eq-eqb, ne-eqb}
@@ -64,7 +64,7 @@ returns-6 c =
     let at3 = at4 .before .before .before in
     let at2 = at3 .before .before in
     let found = at2 .before .before .before .before .look .ensures in
-    ap (eqb _) (c .index2 .ensures)
+    ap₂ eqb (c .before .shelf-of .ensures) (c .index2 .ensures)
     ∙ sym
     (carried-looked _ _ (found .0) (found .2) refl _ _ (found .1) (at5 .before .before .wide .ensures)
     ∙ rw (
