@@ -6,16 +6,17 @@ use mathlib.Core.List.{List, [], _∷_}
 use lib.Dec.{eqb}
 use lib.ListN.{length}
 use Rattle.loops.specs.Loops.{pick}
-use Rattle.paper.specs.Calls.{read-value, read-unwritten, Answer, refused, done, reads, current, superseded, listed}
+use Rattle.paper.specs.Calls.{Told, read-value, read-unwritten, Answer, refused, done, reads, current, superseded, listed}
 use Rattle.paper.specs.declared.answer.Refusal.{Refusal}
-use Rattle.paper.specs.declared.answer.Refusal.the-variants.{BadBook, BadDepot, BadShelf, BadKey, BadCrew, SameDepot, EmptyLink, Wait, LinkFull, ClockAtEnd, BadCounts, NotHereYet, BadDate, BadCard}
+use Rattle.paper.specs.declared.answer.Refusal.the-variants.{BadBook, BadDepot, BadShelf, BadKey, BadCrew, SameDepot, EmptyLink, Wait, LinkFull, ClockAtEnd, BadCounts, NotHereYet, BadDate, BadCard, BadList}
 use Rattle.paper.specs.declared.answer.Answer as plain
 use Rattle.paper.specs.declared.answer.Finding.{Finding}
 use Rattle.paper.specs.declared.answer.ReadAnswer.{ReadAnswer}
 use Rattle.paper.specs.declared.answer.WriteAnswer.{WriteAnswer}
+use Rattle.paper.specs.declared.answer.ListAnswer.{ListAnswer}
 use Rattle.paper.specs.declared.answer.Outcome.{Outcome}
 use Rattle.paper.specs.declared.answer.Reply.{Reply}
-use Rattle.paper.specs.Answers.{numberOf, paper, paperFound, paperRead, paperWrite, paperOutcome, onPaper, entriesIn, padded, Holds}
+use Rattle.paper.specs.Answers.{numberOf, paper, paperFound, paperRead, paperWrite, paperListed, paperList, paperOutcome, onPaper, entriesIn, padded, Holds, tellings, depotsTold, pageWords, HoldsAll}
 
 -- ---- refusals
 
@@ -25,7 +26,7 @@ numbered [] n = BadBook
 numbered (r ∷ rs) n = pick (eqb (numberOf r) n) r (numbered rs n)
 
 refusalAt : ℕ → Refusal
-refusalAt = numbered (BadBook ∷ BadDepot ∷ BadShelf ∷ BadKey ∷ BadCrew ∷ SameDepot ∷ EmptyLink ∷ Wait ∷ LinkFull ∷ ClockAtEnd ∷ BadCounts ∷ NotHereYet ∷ BadDate ∷ BadCard ∷ [])
+refusalAt = numbered (BadBook ∷ BadDepot ∷ BadShelf ∷ BadKey ∷ BadCrew ∷ SameDepot ∷ EmptyLink ∷ Wait ∷ LinkFull ∷ ClockAtEnd ∷ BadCounts ∷ NotHereYet ∷ BadDate ∷ BadCard ∷ BadList ∷ [])
 
 refusal-back : (r : Refusal) → refusalAt (numberOf r) ≡ r
 unfolding numberOf refusalAt numbered pick
@@ -43,6 +44,7 @@ refusal-back BadCounts = refl
 refusal-back NotHereYet = refl
 refusal-back BadDate = refl
 refusal-back BadCard = refl
+refusal-back BadList = refl
 
 -- each refusal has its own number
 pub number-settles : (r r′ : Refusal) → numberOf r ≡ numberOf r′ → r ≡ r′
@@ -134,3 +136,17 @@ written-back (WriteAnswer.Refused r) = ap WriteAnswer.Refused (refusal-back r)
 
 pub written-settles : (a b : WriteAnswer) → paperWrite a ≡ paperWrite b → a ≡ b
 written-settles a b e = sym (written-back a) ∙ ap (λ (x : Answer). writtenAt (outcomeAt x)) e ∙ written-back b
+
+listed-back : (a : plain.Answer) (ts : List Told) → plainAt (outcomeAt (paperListed a ts)) ≡ a
+unfolding paperListed outcomeAt plainAt
+listed-back plain.Answer.Done ts = refl
+listed-back (plain.Answer.Refused r) ts = ap plain.Answer.Refused (refusal-back r)
+
+pub list-settles : (a b : ListAnswer) → paperList a ≡ paperList b → HoldsAll (paperList a) a → HoldsAll (paperList b) b → a ≡ b
+unfolding paperList
+list-settles a b e h k =
+    let o = sym (listed-back (a .outcome) _) ∙ ap (λ (x : Answer). plainAt (outcomeAt x)) e ∙ listed-back (b .outcome) _ in
+    let w = h .words ∙ ap (λ (x : Answer). pageWords 8 (tellings x)) e ∙ sym (k .words) in
+    let m = h .bearings ∙ ap (λ (x : Answer). length (tellings x)) e ∙ sym (k .bearings) in
+    let n = h .depots ∙ ap (λ (x : Answer). depotsTold (tellings x)) e ∙ sym (k .depots) in
+    λ i. record { outcome = o i; bearings = m i; depots = n i; words = w i }

@@ -16,6 +16,7 @@ pub enum Refusal {
     NotHereYet,
     BadDate,
     BadCard,
+    BadList,
 }
 
 // The answer of a setup, a tick, a take, a refresh or a move.
@@ -50,6 +51,15 @@ pub enum WriteAnswer {
     Current(u32),
     Superseded(u32),
     Refused(Refusal),
+}
+
+// The answer of a list: eight words for each bearing, in list order, in room for eight bearings. They are 1 and the value with its card's two words, or 1's place and these 0 where
+// the bearing is unwritten; then room for the four entries of its vector, of which the first `depots` count. 0 stands elsewhere; if refused, everywhere.
+pub struct ListAnswer {
+    pub outcome: Answer,
+    pub bearings: usize,
+    pub depots: usize,
+    pub words: [u32; 64],
 }
 
 // What any request comes to.

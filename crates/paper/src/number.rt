@@ -25,6 +25,7 @@ pub fn number_of(r: Refusal) -> u32
         Refusal::NotHereYet => 12,
         Refusal::BadDate => 16,
         Refusal::BadCard => 14,
+        Refusal::BadList => 15,
     }
 }
 
