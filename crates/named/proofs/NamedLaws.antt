@@ -6,10 +6,10 @@ use native.Mathlib.Omega.{arith}
 use mathlib.Core.Path.{_≡_, refl, sym, _∙_, ap, ap₂, subst}
 use mathlib.Core.Logic.{⊎-elim}
 use mathlib.Core.List.{List}
-use mathlib.Core.Bool.{Bool, true, false, _&&_, _||_}
+use mathlib.Core.Bool.{Bool, true, false, _&&_, _||_, not}
 use lib.Dec.{leb, eqb}
-use lib.ListN.{length}
-use borrow.Author.Tests.{lt-leb, leb-true, leb-false, eqb-true, eqb-false, eq-eqb, ne-eqb, ltb-true, le-leb}
+use lib.ListN.{length, getD}
+use borrow.Author.Tests.{lt-leb, leb-true, leb-false, eqb-true, eqb-false, eq-eqb, ne-eqb, ltb-true, le-leb, not-false}
 use Rattle.loops.specs.Loops.{every}
 use Rattle.order.specs.Record.{bearingOf}
 use Rattle.loops.proofs.BoolLaws.{decided, and-left, and-right, and-intro, and-next, or-left, or-right, or-next}
@@ -20,14 +20,19 @@ use Rattle.book.specs.Layout.{bookWords, linkRoom, countsOf, home, seen, linkOf
 use Rattle.fit.specs.Fit.{countsFit, Within, homeFit, crewFit, clockFit, stableFit, seenFit, shelfFit, othersInRange, storedFit}
 use Rattle.fit.specs.Fit.{copyFit, messageFit, headFit, messagesFit, linkFit}
 use Rattle.fit.specs.Fit.{homesFit, crewsFit, shelvesFit, linksFit, storesFit, partsFit, fit}
-use Rattle.named.specs.Named.{headsOutFit, waitingFit, placesFit, arrivalFit, showFit, tickParts, takeParts, refreshParts, homeParts, readParts, writeParts, moveParts}
-use Rattle.named.specs.Named.{baseFit, tickFit, takeFit, refreshFit, readFit, writeFit, moveFit}
+use Rattle.named.specs.Named.{headsOutFit, waitingFit, placesFit, arrivalFit, showFit, tickParts, takeParts, refreshParts, homeParts, readParts, writeParts, moveParts, listedFit, pageParts, listParts, isList, allBelow}
+use Rattle.named.specs.Named.{baseFit, tickFit, takeFit, refreshFit, readFit, writeFit, moveFit, listFit}
 use Rattle.fit.proofs.FitLaws.{counts-within, IsFit, fit-open}
 use Rattle.versions.proofs.MessageLaws.{and-flat, link-heads, link-bearings}
 
 -- a test that is asked only of a number in range
 unless : (a : Bool) {b : Bool} → (a ≡ false → b ≡ true) → a || b ≡ true
 unless a {b} h = ⊎-elim (λ (e : a ≡ true). or-left a b e) (λ (e : a ≡ false). or-right a b (h e)) (decided a)
+
+-- each bearing of a list, all of which are below n
+pub below-at : (n : ℕ) (ks : List ℕ) → allBelow n ks ≡ true → (i : ℕ) → i < length ks → getD ks i 0 < n
+unfolding allBelow
+below-at n ks h i l = ltb-true _ _ (every-at (length ks) _ h i l)
 
 -- a fit link's head and untaken messages are fit
 link-waits : (n : Counts) (l : List ℕ) (s from q : ℕ) → linkFit n l s from q ≡ true → waitingFit n l s from q ≡ true
@@ -131,6 +136,13 @@ module _ (n : Counts) (l : List ℕ) (h : partsFit n l ≡ true) where
     unfolding writeParts
     write-parts = and-intro read-parts (tick-parts (home l c) (k % n .shelves) (home-in c hc) (mod-lt k p))
 
+  list-parts : (c : ℕ) (ks : List ℕ) → c < n .crews → allBelow (n .bearings) ks ≡ true → listParts n l c ks ≡ true
+  unfolding listParts pageParts listedFit
+  list-parts c ks hc hk =
+      and-intro (crew-fit c hc)
+      (and-intro (every-intro (length ks) _ (λ i k. stored-fit (home l c) _ (home-in c hc) (below-at (n .bearings) ks hk i k)))
+      (every-intro (n .shelves) _ (λ s k. show-fit (home l c) s (home-in c hc) k)))
+
 -- ---- a fit book is fit for every call
 
 module _ (l : List ℕ) (h : fit l ≡ true) where
@@ -170,6 +182,10 @@ module _ (l : List ℕ) (h : fit l ≡ true) where
   pub fit-move : (c d : ℕ) → moveFit l c d ≡ true
   unfolding moveFit
   fit-move c d = and-intro fit-base (unless _ (λ a. unless _ (λ b. move-parts (countsOf l) l (F .parts) c d (leb-false _ _ a) (leb-false _ _ b))))
+
+  pub fit-list : (c : ℕ) (ks : List ℕ) → listFit l c ks ≡ true
+  unfolding listFit
+  fit-list c ks = and-intro fit-base (unless _ (λ a. unless (not (isList ks)) (λ b. unless (not (allBelow (countsOf l .bearings) ks)) (λ e. list-parts (countsOf l) l (F .parts) c ks (leb-false _ _ a) (not-false _ e)))))
 
 -- ---- what a call may use
 
@@ -216,6 +232,12 @@ pub move-named : (l : List ℕ) (c d : ℕ) → baseFit l ≡ true → c < count
 unfolding moveFit
 move-named l c d f a b = and-next _ f ∙ or-next _ (lt-leb _ _ a) ∙ or-next _ (lt-leb _ _ b)
 
+pub list-named :
+    (l : List ℕ) (c : ℕ) (ks : List ℕ) → baseFit l ≡ true → c < countsOf l .crews → isList ks ≡ true → allBelow (countsOf l .bearings) ks ≡ true →
+    listFit l c ks ≡ listParts (countsOf l) l c ks
+unfolding listFit
+list-named l c ks f a b k = and-next _ f ∙ or-next _ (lt-leb _ _ a) ∙ or-next _ (ap not b) ∙ or-next _ (ap not k)
+
 -- and the length, the counts and the homes are always among them
 pub tick-based : (l : List ℕ) (d s : ℕ) → tickFit l d s ≡ true → baseFit l ≡ true
 unfolding tickFit
@@ -240,6 +262,10 @@ write-based l c k h = and-left (baseFit l) _ h
 pub move-based : (l : List ℕ) (c d : ℕ) → moveFit l c d ≡ true → baseFit l ≡ true
 unfolding moveFit
 move-based l c d h = and-left (baseFit l) _ h
+
+pub list-based : (l : List ℕ) (c : ℕ) (ks : List ℕ) → listFit l c ks ≡ true → baseFit l ≡ true
+unfolding listFit
+list-based l c ks h = and-left (baseFit l) _ h
 
 -- ---- the code
 

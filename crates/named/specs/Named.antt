@@ -2,10 +2,10 @@
 -- the parts that the call reads or writes. A number out of range names no part.
 -- Assumes nothing.
 use Prim.Native.Nat.{ℕ, _+_, _-_, _%_}
-use mathlib.Core.Bool.{Bool, _&&_, _||_}
+use mathlib.Core.Bool.{Bool, _&&_, _||_, not}
 use mathlib.Core.List.{List}
-use lib.Dec.{leb, eqb}
-use lib.ListN.{length}
+use lib.Dec.{leb, ltb, eqb}
+use lib.ListN.{length, getD}
 use Rattle.loops.specs.Loops.{every}
 use Rattle.order.specs.Record.{bearingOf}
 use Rattle.book.specs.declared.parts.Counts.{Counts}
@@ -60,6 +60,29 @@ writeParts n l c k = readParts n l c k && tickParts n l (home l c) (k % n .shelv
 unfoldable pub moveParts : Counts → List ℕ → ℕ → ℕ → Bool
 moveParts n l c d = crewFit n l c && every (n .shelves) (seenFit n l d)
 
+-- at depot d, the stored versions of the bearings ks
+unfoldable pub listedFit : Counts → List ℕ → ℕ → List ℕ → Bool
+listedFit n l d ks = every (length ks) (λ i. storedFit n l d (getD ks i 0))
+
+-- crew c and the bearings ks at depot d: as a read, for every shelf and every bearing
+unfoldable pub pageParts : Counts → List ℕ → ℕ → List ℕ → ℕ → Bool
+pageParts n l c ks d = crewFit n l c && (listedFit n l d ks && every (n .shelves) (showFit n l d))
+
+unfoldable pub listParts : Counts → List ℕ → ℕ → List ℕ → Bool
+listParts n l c ks = pageParts n l c ks (home l c)
+
+-- the most bearings that a list may name
+abbrev pub mostListed : ℕ
+mostListed = 8
+
+-- it names one to eight
+unfoldable pub isList : List ℕ → Bool
+isList ks = leb 1 (length ks) && leb (length ks) mostListed
+
+-- every bearing of the list is below n
+unfoldable pub allBelow : ℕ → List ℕ → Bool
+allBelow n ks = every (length ks) (λ i. ltb (getD ks i 0) n)
+
 -- ---- BAD BOOK is the want of these
 
 -- the length, the counts and the homes
@@ -86,3 +109,8 @@ writeFit l c k = baseFit l && (leb (countsOf l .crews) c || (leb (countsOf l .be
 
 unfoldable pub moveFit : List ℕ → ℕ → ℕ → Bool
 moveFit l c d = baseFit l && (leb (countsOf l .crews) c || (leb (countsOf l .depots) d || moveParts (countsOf l) l c d))
+
+unfoldable pub listFit : List ℕ → ℕ → List ℕ → Bool
+listFit l c ks =
+    baseFit l
+    && (leb (countsOf l .crews) c || (not (isList ks) || (not (allBelow (countsOf l .bearings) ks) || listParts (countsOf l) l c ks)))

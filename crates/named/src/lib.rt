@@ -25,15 +25,15 @@ use versions::link::messages_fit;
 use versions::link::waiting_fit;
 use versions::version::stored_fits;
 ghost use mathlib.Core.Path.{_≡_};
-ghost use mathlib.Core.Bool.{_&&_, _||_};
+ghost use mathlib.Core.Bool.{true, _&&_, _||_};
 ghost use Prim.Native.Nat.{ℕ, _≤_, _<_};
 ghost use lib.Dec.{eqb};
-ghost use lib.ListN.{length};
+ghost use lib.ListN.{length, getD};
 ghost use Rattle.loops.specs.Loops.{every};
 ghost use Rattle.order.specs.Record.{mostDepots, bearingOf};
 ghost use Rattle.book.specs.Layout.{bookWords, mostShelves, mostCrews, bearingRoom, links, linkRoom, linkOf, slot, recordOf};
 ghost use Rattle.fit.specs.Fit.{Within, seenFit, headFit, storedFit};
-ghost use Rattle.named.specs.Named.{headsOutFit, arrivalFit, showFit, tickParts, takeParts, refreshParts, homeParts, moveParts, baseFit};
+ghost use Rattle.named.specs.Named.{headsOutFit, arrivalFit, showFit, tickParts, takeParts, refreshParts, homeParts, moveParts, listedFit, pageParts, allBelow, baseFit};
 
 // Whether a book has its length, counts in range, and homes that are depots.
 pub fn base_fits(book: &[u32]) -> bool
@@ -255,4 +255,57 @@ pub fn move_parts_fit(book: &[u32], n: Counts, c: Crew, d: Depot) -> bool
         return false;
     }
     seen_all_fit(book, n, d)
+}
+
+// Whether what raise and show reads and writes is fit at every shelf of a depot.
+fn shows_fit(book: &[u32], n: Counts, d: Depot) -> bool
+    requires { ⌜ (length (now book) ≡ bookWords) × Within n × (d .0 < mostDepots) ⌝ }
+    ensures { λ r. ⌜ r ≡ every (n .shelves) (showFit n (now (book .entry)) (d .0)) ⌝ }
+{
+    let count = n.shelves;
+    let mut i = 0;
+    while i < count {
+        if !show_fits(book, n, d, Shelf::nth(i, count)) {
+            return false;
+        }
+        i += 1;
+    }
+    true
+}
+
+// The bearing at a place of a list, all of whose numbers are below the count.
+pub fn bearing_at(bearings: &[u32], i: usize, count: usize) -> Bearing
+    requires { ⌜ (i < length (now bearings)) × (allBelow count (now bearings) ≡ true) ⌝ }
+    ensures { λ r. ⌜ r .0 ≡ getD (now (bearings .entry)) i 0 ⌝ }
+{
+    Bearing::nth(wide(bearings[i]), count)
+}
+
+// Whether the stored version of every listed bearing is fit at a depot.
+fn listed_fit(book: &[u32], n: Counts, d: Depot, bearings: &[u32]) -> bool
+    requires { ⌜ (length (now book) ≡ bookWords) × Within n × (d .0 < mostDepots) × (allBelow (n .bearings) (now bearings) ≡ true) ⌝ }
+    ensures { λ r. ⌜ r ≡ listedFit n (now (book .entry)) (d .0) (now (bearings .entry)) ⌝ }
+{
+    let mut i = 0;
+    while i < bearings.len() {
+        if !stored_fits(book, n, d, bearing_at(bearings, i, n.bearings)) {
+            return false;
+        }
+        i += 1;
+    }
+    true
+}
+
+// Whether what a crew's list of bearings reads and writes is fit, at its home.
+pub fn list_parts_fit(book: &[u32], n: Counts, c: Crew, bearings: &[u32], d: Depot) -> bool
+    requires { ⌜ (length (now book) ≡ bookWords) × Within n × (c .0 < mostCrews) × (d .0 < mostDepots) × (allBelow (n .bearings) (now bearings) ≡ true) ⌝ }
+    ensures { λ r. ⌜ r ≡ pageParts n (now (book .entry)) (c .0) (now (bearings .entry)) (d .0) ⌝ }
+{
+    if !crew_fits(book, n, c) {
+        return false;
+    }
+    if !listed_fit(book, n, d, bearings) {
+        return false;
+    }
+    shows_fit(book, n, d)
 }
