@@ -11,4 +11,5 @@ pub mod FitReady
 pub mod MadeLaws
 pub mod HomeLaws
 pub mod MoveTable
+pub mod ListTable
 pub mod WriteLaws

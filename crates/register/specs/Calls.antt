@@ -2,23 +2,24 @@
 -- Assumes nothing.
 use Prim.Native.Nat.{ℕ, _+_}
 use mathlib.Core.Bool.{Bool}
-use mathlib.Core.List.{List, [], _∷_}
+use mathlib.Core.List.{List, [], _∷_, map}
 use lib.Dec.{eqb}
-use lib.ListN.{getD, set, replicate}
-use Rattle.loops.specs.Loops.{pick}
-use Rattle.order.specs.Vector.{Vec, mergedAt}
+use lib.ListN.{length, getD, set, replicate}
+use Rattle.loops.specs.Loops.{times, pick}
+use Rattle.order.specs.Vector.{Vec, vectorIn, mergedAt}
 use Rattle.order.specs.Order.{above}
 use Rattle.order.specs.Record.{vectorOf, rankOf}
 use Rattle.card.specs.declared.Card.{Card}
 use Rattle.card.specs.Card.{wordOf}
 use Rattle.paper.specs.declared.answer.Payload.{Payload}
+use Rattle.paper.specs.Calls.{Told}
 use Rattle.book.specs.declared.parts.Counts.{Counts}
 use Rattle.book.specs.Words.{put}
-use Rattle.book.specs.Layout.{bookWords, homeAt, crewAt, copyKind, countsOf, home, crewVector, clock, stored}
+use Rattle.book.specs.Layout.{bookWords, homeAt, crewAt, copyKind, countsOf, home, crewVector, clock, stable, stored}
 use Rattle.shelf.specs.Show.{keptIn, settled}
-use Rattle.links.specs.Send.{sent, beat, took, lowestSeen}
+use Rattle.links.specs.Send.{sent, beat, took, lowestSeen, fourOf}
 use Rattle.register.specs.declared.version.Version.{Version}
-use Rattle.register.specs.Answers.{cut}
+use Rattle.register.specs.Answers.{cut, told}
 use Rattle.register.specs.Table.{shelfOf}
 
 -- setup: the four counts, the homes, and 0 everywhere else
@@ -77,6 +78,36 @@ refreshBook l d s = settled (countsOf l .depots) d s (lowestSeen (countsOf l .de
 -- move: the crew's home is the new one, and no other word changes
 unfoldable pub moveBook : List ℕ → ℕ → ℕ → List ℕ
 moveBook l c d = set l (homeAt c) d
+
+-- ---- list
+
+-- the vector w, each entry but depot d's become the largest of itself and the stable entries of the first p shelves of depot d
+unfoldable pub gatheredFrom : ℕ → ℕ → ℕ → List ℕ → List ℕ → List ℕ
+gatheredFrom n p d l w = times p (λ s u. mergedAt n d (stable l d s) 0 u) w
+
+-- the first p shelves of depot d raised with what is offered and shown
+unfoldable pub settledAll : ℕ → ℕ → ℕ → Vec → List ℕ → List ℕ
+settledAll n p d offered l = times p (λ s m. settled n d s offered m) l
+
+-- crew c's vector become the entrywise maximum with that of the stored version of each bearing at depot d
+unfoldable pub mergedAll : ℕ → ℕ → ℕ → List ℕ → List ℕ → List ℕ
+mergedAll n c d ks l = times (length ks) (λ i m. mergedAt n n (vectorOf (stored m d (getD ks i 0))) (crewAt c) m) l
+
+-- what crew c's list offers every home shelf: the crew's vector and the stable vectors of all of them, other depots' entries only
+unfoldable pub pageVector : List ℕ → ℕ → Vec
+pageVector l c = vectorIn (gatheredFrom (countsOf l .depots) (countsOf l .shelves) (home l c) l (fourOf (crewVector l c)))
+
+-- every home shelf raised with it and shown
+unfoldable pub pageBook : List ℕ → ℕ → List ℕ
+pageBook l c = settledAll (countsOf l .depots) (countsOf l .shelves) (home l c) (pageVector l c) l
+
+-- what is then told of each bearing
+unfoldable pub pageTold : List ℕ → ℕ → List ℕ → List Told
+pageTold l c ks = map (λ k. told (countsOf l .depots) (stored (pageBook l c) (home l c) k)) ks
+
+-- list: all are read, then merged into the crew's vector
+unfoldable pub listBook : List ℕ → ℕ → List ℕ → List ℕ
+listBook l c ks = mergedAll (countsOf l .depots) c (home l c) ks (pageBook l c)
 
 -- ---- the version that a write makes, as its words
 

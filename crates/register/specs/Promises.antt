@@ -8,15 +8,16 @@ use lib.Dec.{eqb}
 use Rattle.loops.specs.Loops.{pick}
 use Rattle.book.specs.declared.parts.Counts.{Counts}
 use Rattle.book.specs.Layout.{countsOf}
-use Rattle.paper.specs.Calls.{done, reads, answerBy}
+use Rattle.paper.specs.Calls.{done, reads, listed, answerBy}
 use Rattle.paper.specs.declared.answer.Answer.{Answer}
 use Rattle.paper.specs.declared.answer.Payload.{Payload}
 use Rattle.paper.specs.declared.answer.ReadAnswer.{ReadAnswer}
 use Rattle.paper.specs.declared.answer.WriteAnswer.{WriteAnswer}
-use Rattle.paper.specs.Answers.{paper, paperRead, paperWrite, Holds}
+use Rattle.paper.specs.declared.answer.ListAnswer.{ListAnswer}
+use Rattle.paper.specs.Answers.{paper, paperRead, paperWrite, paperList, Holds, HoldsAll}
 use Rattle.register.specs.Answers.{told, written}
-use Rattle.register.specs.Table.{setupNumber, readNumber, writeNumber, tickNumber, takeNumber, refreshNumber, moveNumber}
-use Rattle.register.specs.Calls.{setUp, readRecord, readBook, newStamp, isCurrent, writeBook, tickBook, takeBook, refreshBook, moveBook}
+use Rattle.register.specs.Table.{setupNumber, readNumber, writeNumber, tickNumber, takeNumber, refreshNumber, moveNumber, listNumber}
+use Rattle.register.specs.Calls.{setUp, readRecord, readBook, newStamp, isCurrent, writeBook, tickBook, takeBook, refreshBook, moveBook, pageTold, listBook}
 
 -- the book after a call with this number: changed if done, else as it was
 unfoldable pub after : ℕ → List ℕ → List ℕ → List ℕ
@@ -50,3 +51,8 @@ pub record Refresh (l : List ℕ) (d s : ℕ) (r : Answer) (l′ : List ℕ) : T
 pub record Move (l : List ℕ) (c d : ℕ) (r : Answer) (l′ : List ℕ) : Type 0 where
   pub answer : paper r ≡ answerBy (moveNumber l c d) done
   pub book : l′ ≡ after (moveNumber l c d) (moveBook l c d) l
+
+pub record Listing (l : List ℕ) (c : ℕ) (ks : List ℕ) (r : ListAnswer) (l′ : List ℕ) : Type 0 where
+  pub answer : paperList r ≡ answerBy (listNumber l c ks) (listed (pageTold l c ks))
+  pub holds : HoldsAll (paperList r) r
+  pub book : l′ ≡ after (listNumber l c ks) (listBook l c ks) l

@@ -14,7 +14,7 @@ use Rattle.paper.specs.Calls.{lastDay, first}
 use Rattle.book.specs.declared.parts.Counts.{Counts}
 use Rattle.book.specs.Layout.{end, bookWords, countsOf, home, crewVector, clock, linkOf, held, taken}
 use Rattle.fit.specs.Fit.{countsFit}
-use Rattle.named.specs.Named.{tickFit, takeFit, refreshFit, readFit, writeFit, moveFit}
+use Rattle.named.specs.Named.{tickFit, takeFit, refreshFit, readFit, writeFit, moveFit, isList, allBelow, listFit}
 use Rattle.links.specs.Send.{roomy, lowestSeen}
 
 -- bearing k lies on shelf k mod P
@@ -89,4 +89,13 @@ moveNumber l c d = first
     ∷ (leb (countsOf l .crews) c, 5)
     ∷ (leb (countsOf l .depots) d, 2)
     ∷ (not (eqb d (home l c) || arrived l c d), 12)
+    ∷ [])
+
+-- list, by crew c of the bearings ks
+unfoldable pub listNumber : List ℕ → ℕ → List ℕ → ℕ
+listNumber l c ks = first
+    ((not (listFit l c ks), 1)
+    ∷ (leb (countsOf l .crews) c, 5)
+    ∷ (not (isList ks), 15)
+    ∷ (not (allBelow (countsOf l .bearings) ks), 4)
     ∷ [])
