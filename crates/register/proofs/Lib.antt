@@ -12,4 +12,5 @@ pub mod MadeLaws
 pub mod HomeLaws
 pub mod MoveTable
 pub mod ListTable
+pub mod PageReady
 pub mod WriteLaws
