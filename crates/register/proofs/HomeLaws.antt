@@ -94,7 +94,7 @@ pub cut-part : (n : ℕ) (r : List ℕ) → n ≤ 4 → cut n (vectorIn (take 4 
 cut-part n r h = cut-same n _ _ h λ x l. getD-take 4 (drop 5 r) x 0 (lt-of-lt-of-le l h) ∙ getD-drop 5 r x 0
 
 -- the room of a vector holds the entries that are told of it
-cut-padded : (n : ℕ) (v : Vec) → n ≤ 4 → cut n v ≡ padded (take n (cut n v))
+pub cut-padded : (n : ℕ) (v : Vec) → n ≤ 4 → cut n v ≡ padded (take n (cut n v))
 unfolding cut padded pick
 cut-padded zero v h = refl
 cut-padded (suc zero) v h = refl
@@ -103,7 +103,7 @@ cut-padded (suc (suc (suc zero))) v h = refl
 cut-padded (suc (suc (suc (suc zero)))) v h = refl
 cut-padded (suc (suc (suc (suc (suc n))))) v h = absurd (omega arith)
 
-cut-count : (n : ℕ) (v : Vec) → n ≤ 4 → n ≡ length (take n (cut n v))
+pub cut-count : (n : ℕ) (v : Vec) → n ≤ 4 → n ≡ length (take n (cut n v))
 unfolding cut
 cut-count n v h = sym (length-take n (cut n v) ∙ omega arith)
 
