@@ -28,10 +28,8 @@ base-book c = test-passed (c .before .base-fits .ensures) (c .if1 .left)
 list-sized : (c : tie.Else2) → isList (now (c .before .before .before .before .before .before .before .before .before .before .before .before .before .args .bearings)) ≡ true
 list-sized c = test-passed (c .before .is-list .ensures) (c .if2 .left)
 
-crew-in : (c : tie.Else2) → (c .before .before .before .before .before .before .before .before .before .before .before .before .before .args .crew < countsOf (now (c .before .before .before .before .before .before .before .before .before .before .before .before .before .args .book)) .crews) × (record { 0 = c .before .before .before .before .before .before .before .before .before .before .before .before .before .args .crew } ≡ c .before .before .before .c .given .0)
-crew-in c =
-    let crew = good-crew _ (c .before .before .before .before .before .checked .ensures) (c .before .before .before .c .given .1) in
-    (subst (λ (m : Counts). c .before .before .before .before .before .before .before .before .before .before .before .before .before .args .crew < m .crews) (c .before .before .before .before .before .before .counts-of .ensures) (crew .0), crew .1)
+crew-under : (c : tie.Else2) → c .before .before .before .before .before .before .before .before .before .before .before .before .before .args .crew < countsOf (now (c .before .before .before .before .before .before .before .before .before .before .before .before .before .args .book)) .crews
+crew-under c = subst (λ (m : Counts). c .before .before .before .before .before .before .before .before .before .before .before .before .before .args .crew < m .crews) (c .before .before .before .before .before .before .counts-of .ensures) (good-crew _ (c .before .before .before .before .before .checked .ensures) (c .before .before .before .c .given .1) .0)
 
 bearings-said : (c : tie.After-all-below) → c .all-below .result ≡ allBelow (countsOf (now (c .before .before .before .before .before .before .before .before .before .before .before .before .before .before .args .book)) .bearings) (now (c .before .before .before .before .before .before .before .before .before .before .before .before .before .before .args .bearings))
 bearings-said c = c .all-below .ensures ∙ ap (λ (m : Counts). allBelow (m .bearings) (now (c .before .before .before .before .before .before .before .before .before .before .before .before .before .before .args .bearings))) (c .before .before .before .before .before .before .before .counts-of .ensures)
@@ -69,7 +67,7 @@ unfolding numberOf
 returns-4 c =
     let args = c .before .before .before .before .before .before .before .before .before .before .before .before .before .before .before .before .args in
     let past = c .before .before .before in
-    let e = list-key (now (args .book)) (args .crew) (now (args .bearings)) (base-book (c .before .before .before .before .before .before .before .before .before .before .before)) (crew-in past .0) (list-sized past) (test-failed (bearings-said (c .before .before)) (c .before .if3 .taken)) in
+    let e = list-key (now (args .book)) (args .crew) (now (args .bearings)) (base-book (c .before .before .before .before .before .before .before .before .before .before .before)) (crew-under past) (list-sized past) (test-failed (bearings-said (c .before .before)) (c .before .if3 .taken)) in
     let told = list-refused BadKey _ (c .refused4 .ensures) e in
     record { answer = told .0; holds = told .1; book = after-refused BadKey _ _ e }
 
@@ -77,14 +75,14 @@ list-at-requires : tie.Need-list-at-requires
 list-at-requires c κs =
     let book = now (c .before .before .before .before .before .before .before .before .before .before .before .before .before .before .before .before .args .book) in
     let past = c .before .before .before in
-    let crew = crew-in past in
-    (base-book (c .before .before .before .before .before .before .before .before .before .before .before), subst (λ (x : Crew). x .0 < countsOf book .crews) (crew .1) (crew .0), list-sized past, test-passed (bearings-said (c .before .before)) (c .before .if3 .left))
+    let crew = good-crew _ (c .before .before .before .before .before .before .before .before .checked .ensures) (c .before .before .before .before .before .before .c .given .1) in
+    (base-book (c .before .before .before .before .before .before .before .before .before .before .before), subst (λ (x : Crew). x .0 < countsOf book .crews) (crew .1) (crew-under past), list-sized past, test-passed (bearings-said (c .before .before)) (c .before .if3 .left))
 
 returns-5 : tie.Need-returns-5
 returns-5 c =
     let call = c .before .before .list-at in
     let args = c .before .before .before .before .before .before .before .before .before .before .before .before .before .before .before .before .before .before .before .args in
-    subst (λ (x : Crew). Listing (now (args .book)) (x .0) (now (args .bearings)) (call .result) (call .last .0)) (sym (crew-in (c .before .before .before .before .before .before) .1)) (call .ensures)
+    subst (λ (x : Crew). Listing (now (args .book)) (x .0) (now (args .bearings)) (call .result) (call .last .0)) (sym (good-crew _ (c .before .before .before .before .before .before .before .before .before .before .before .checked .ensures) (c .before .before .before .before .before .before .before .before .before .c .given .1) .1)) (call .ensures)
 
 pub list-spec : {M : Type 1} → statement M
 list-spec =
