@@ -5,25 +5,26 @@ use Prim.Native.Nat.{ℕ}
 use native.Mathlib.Omega.{arith}
 use mathlib.Core.Path.{_≡_, refl, sym, subst}
 use mathlib.Core.List.{List, [], _∷_}
-use mathlib.Core.Bool.{Bool, true, _&&_, _||_}
+use mathlib.Core.Bool.{Bool, true, not, _&&_, _||_}
 use lib.Dec.{leb, eqb}
 use borrow.Author.Tests.{leb-true, leb-false, le-leb, ltb-true, lt-ltb, eqb-true, eqb-false, eq-eqb}
 use Rattle.loops.proofs.BoolLaws.{and-left, and-right, and-intro, pick-true}
 use Rattle.loops.proofs.LoopLaws.{every-intro}
 use Rattle.paper.specs.declared.answer.Payload.{Payload}
-use Rattle.paper.specs.Calls.{Call, read, write, tick, take, refresh, move}
+use Rattle.paper.specs.Calls.{Call, read, write, tick, take, refresh, move, list}
 use Rattle.book.specs.declared.parts.Counts.{Counts}
 use Rattle.book.specs.Layout.{countsOf}
 use Rattle.fit.specs.Fit.{homeFit, inRange, crewFit, clockFit, storedFit, Within, fit}
-use Rattle.named.specs.Named.{tickParts, takeParts, refreshParts, readParts, writeParts, baseFit, tickFit, takeFit, refreshFit, readFit, writeFit}
+use Rattle.named.specs.Named.{tickParts, takeParts, refreshParts, readParts, writeParts, listParts, isList, allBelow, baseFit, tickFit, takeFit, refreshFit, readFit, writeFit, listFit}
 use Rattle.fit.proofs.FitLaws.{counts-within}
 use Rattle.named.proofs.NamedLaws.{base-open}
 use Rattle.shelf.proofs.FrameLaws.{pick-cases}
-use Rattle.register.specs.Table.{readNumber, writeNumber, tickNumber, takeNumber, refreshNumber}
-use Rattle.register.specs.Calls.{setUp, readBook, writeBook, tickBook, takeBook, refreshBook}
+use Rattle.register.specs.Table.{readNumber, writeNumber, tickNumber, takeNumber, refreshNumber, listNumber}
+use Rattle.register.specs.Calls.{setUp, readBook, writeBook, tickBook, takeBook, refreshBook, listBook}
 use Rattle.register.specs.Promises.{after}
 use Rattle.register.proofs.FitParts.{whole-open, whole-close, link-open, link-close}
 use Rattle.register.proofs.Numbers.{tick-done, take-done, refresh-done, read-done, write-done}
+use Rattle.register.proofs.ListTable.{list-done}
 use Rattle.upkeep.specs.Requests.{Request, setup, call, numberAt, changedBy, bookAfter, last}
 use Rattle.upkeep.specs.Own.{Part, theLength, theCounts, aHome, aCrew, aClock, aStable, aStamp, aHead, aWaiting, aLink, aStored, Named, fitPart, Fits, fitFor}
 use Rattle.upkeep.proofs.FitFrame.{Keeps, counts-same}
@@ -31,6 +32,7 @@ use Rattle.upkeep.proofs.FitMove.{Leaves, keeps-leaves, move-leaves, mo
 use Rattle.upkeep.proofs.FitKept.{crew-open, tick-asked, take-asked, refresh-asked, read-asked, write-asked}
 use Rattle.upkeep.proofs.FitKept.{tick-keeps, take-keeps, refresh-settles, read-settles}
 use Rattle.upkeep.proofs.FitWrite.{write-settles}
+use Rattle.upkeep.proofs.FitList.{list-asked, list-settles, list-kept}
 use Rattle.upkeep.proofs.FitSetup.{length-set-up, setup-fit}
 use Rattle.upkeep.proofs.FitOwnParts.{or-on, stable-open, stable-close, head-close, waiting-close}
 use Rattle.upkeep.proofs.FitOwnParts.{base-kept, tick-kept, take-kept, refresh-kept, read-kept, write-kept}
@@ -91,6 +93,7 @@ call-keeps l (tick d s) h = keeps-leaves (countsOf l) l _ (tick-asked l d s (tic
 call-keeps l (take d s from) h = keeps-leaves (countsOf l) l _ (take-asked l d s from (take-done l d s from h) .0 .within) (take-keeps l d s from h)
 call-keeps l (refresh d s) h = keeps-leaves (countsOf l) l _ (refresh-asked l d s (refresh-done l d s h) .0 .within) (refresh-settles l d s h .keeps)
 call-keeps l (move c d) h = move-leaves l c d h
+call-keeps l (list c ks) h = keeps-leaves (countsOf l) l _ (list-asked l c ks (list-done l c ks h) .0 .within) (list-settles l c ks h .keeps)
 
 -- no call moves the counts
 pub counts-stay : (l : List ℕ) (q : Call) → countsOf (bookAfter l (call q)) ≡ countsOf l
@@ -174,6 +177,15 @@ write-own l c k payload h =
     (λ W. or-on (leb _ c) _ λ a. or-on (leb _ k) _ λ b.
     write-kept (countsOf l) l _ W c k (t .crew) (t .bearing) (write-asked l c k t .0 .homes c (t .crew)) S) (t .fits)
 
+list-own : (l : List ℕ) (c : ℕ) (ks : List ℕ) → listNumber l c ks ≡ 0 → listFit (listBook l c ks) c ks ≡ true
+unfolding listFit
+list-own l c ks h =
+    let S = list-settles l c ks h in
+    let t = list-done l c ks h in
+    passes l _ (λ n v. leb (n .crews) c || (not (isList ks) || (not (allBelow (n .bearings) ks) || listParts n v c ks))) (S .keeps)
+    (λ W. or-on (leb _ c) _ λ a. or-on (not (isList ks)) _ λ b. or-on (not (allBelow (countsOf l .bearings) ks)) _ λ e.
+    list-kept (countsOf l) l _ W c ks (t .crew) (t .bearings) (list-asked l c ks t .0 .homes c (t .crew)) S) (t .fits)
+
 done-own : (l : List ℕ) (r : Request) → numberAt l r ≡ 0 → fitFor (changedBy l r) r ≡ true
 unfolding numberAt changedBy fitFor
 done-own l (setup n homes) h = eq-eqb _ _ (length-set-up n homes)
@@ -183,6 +195,7 @@ done-own l (call (tick d s)) h = tick-own l d s h
 done-own l (call (take d s from)) h = take-own l d s from h
 done-own l (call (refresh d s)) h = refresh-own l d s h
 done-own l (call (move c d)) h = move-own l c d h
+done-own l (call (list c ks)) h = list-own l c ks h
 
 pub own-parts : (l : List ℕ) (r : Request) → numberAt l r ≡ 0 → fitFor (bookAfter l r) r ≡ true
 unfolding bookAfter after

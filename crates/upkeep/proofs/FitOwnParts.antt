@@ -32,14 +32,14 @@ use Rattle.upkeep.proofs.FitKept.{crew-open, waiting-open}
 
 -- ---- a test that passes on, place by place
 
-and-on : (a b : Bool) {c e : Bool} → (a ≡ true → c ≡ true) → (b ≡ true → e ≡ true) → a && b ≡ true → c && e ≡ true
+pub and-on : (a b : Bool) {c e : Bool} → (a ≡ true → c ≡ true) → (b ≡ true → e ≡ true) → a && b ≡ true → c && e ≡ true
 and-on a b f g h = and-intro (f (and-left a b h)) (g (and-right a b h))
 
 pub or-on : (a b : Bool) {c : Bool} → (a ≡ false → b ≡ true → c ≡ true) → a || b ≡ true → a || c ≡ true
 or-on true b f h = refl
 or-on false b f h = f refl h
 
-every-on : (n : ℕ) (p q : ℕ → Bool) → ((i : ℕ) → i < n → p i ≡ true → q i ≡ true) → every n p ≡ true → every n q ≡ true
+pub every-on : (n : ℕ) (p q : ℕ → Bool) → ((i : ℕ) → i < n → p i ≡ true → q i ≡ true) → every n p ≡ true → every n q ≡ true
 every-on n p q f h = every-intro n q λ i k. f i k (every-at n p h i k)
 
 -- ---- the tests as statements, and back
@@ -91,7 +91,7 @@ module _ (n : Counts) (l m : List ℕ) (W : Within n) (K : Keeps n l m) where
 
   -- ---- the parts that a call names
 
-  home-stays : (c : ℕ) → c < n .crews → home m c ≡ home l c
+  pub home-stays : (c : ℕ) → c < n .crews → home m c ≡ home l c
   home-stays c k = let a = W .crews in K .low (4 + c) (omega arith)
 
   homes-kept : homesFit n l ≡ true → homesFit n m ≡ true

@@ -7,6 +7,7 @@ pub mod FitKept
 pub mod FitWrite
 pub mod FitSetup
 pub mod FitOwnParts
+pub mod FitList
 pub mod FitMove
 pub mod FitOwn
 pub mod FitOwnCase
@@ -26,4 +27,5 @@ pub mod LocalHome
 pub mod LocalRead
 pub mod LocalWrite
 pub mod LocalMove
+pub mod LocalList
 pub mod LocalCalls

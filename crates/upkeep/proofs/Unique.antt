@@ -8,8 +8,9 @@ use Rattle.paper.specs.declared.answer.Payload.{Payload}
 use Rattle.paper.specs.declared.answer.Answer.{Answer}
 use Rattle.paper.specs.declared.answer.ReadAnswer.{ReadAnswer}
 use Rattle.paper.specs.declared.answer.WriteAnswer.{WriteAnswer}
-use Rattle.paper.proofs.Settles.{plain-settles, read-settles, written-settles}
-use Rattle.register.specs.Promises.{Setup, Read, Write, Tick, Take, Refresh, Move}
+use Rattle.paper.specs.declared.answer.ListAnswer.{ListAnswer}
+use Rattle.paper.proofs.Settles.{plain-settles, read-settles, written-settles, list-settles}
+use Rattle.register.specs.Promises.{Setup, Read, Write, Tick, Take, Refresh, Move, Listing}
 
 pub setup-unique : (l : List ℕ) (n : Counts) (homes : List ℕ) {r r′ : Answer} {m m′ : List ℕ} → Setup l n homes r m → Setup l n homes r′ m′ → (r ≡ r′) × (m ≡ m′)
 setup-unique l n homes p q = (plain-settles _ _ (p .answer ∙ sym (q .answer)), p .book ∙ sym (q .book))
@@ -31,3 +32,6 @@ refresh-unique l d s p q = (plain-settles _ _ (p .answer ∙ sym (q .answer)), p
 
 pub move-unique : (l : List ℕ) (c d : ℕ) {r r′ : Answer} {m m′ : List ℕ} → Move l c d r m → Move l c d r′ m′ → (r ≡ r′) × (m ≡ m′)
 move-unique l c d p q = (plain-settles _ _ (p .answer ∙ sym (q .answer)), p .book ∙ sym (q .book))
+
+pub list-unique : (l : List ℕ) (c : ℕ) (ks : List ℕ) {r r′ : ListAnswer} {m m′ : List ℕ} → Listing l c ks r m → Listing l c ks r′ m′ → (r ≡ r′) × (m ≡ m′)
+list-unique l c ks p q = (list-settles _ _ (p .answer ∙ sym (q .answer)) (p .holds) (q .holds), p .book ∙ sym (q .book))

@@ -9,12 +9,12 @@ use mathlib.Core.List.{List}
 use lib.ListN.{length, getD}
 use Rattle.order.specs.Record.{recordWords, bearingOf}
 use Rattle.paper.specs.declared.answer.Payload.{Payload}
-use Rattle.paper.specs.Calls.{Call, read, write, tick, take, refresh, move}
+use Rattle.paper.specs.Calls.{Call, read, write, tick, take, refresh, move, list}
 use Rattle.book.specs.declared.parts.Counts.{Counts}
 use Rattle.book.specs.Layout.{slotWords, homeAt, crewAt, clockAt, stableAt, seenAt, linkOf, heldAt, slotAt, storedAt}
 use Rattle.book.specs.Layout.{countsOf, home, held, taken, slot, recordOf}
 use Rattle.fit.specs.Fit.{countsFit, headFit, linkFit}
-use Rattle.named.specs.Named.{baseFit}
+use Rattle.named.specs.Named.{isList, allBelow, baseFit}
 use Rattle.upkeep.specs.Requests.{Request, setup, call, numberAt, replyTo, bookAfter}
 
 -- two books of the same length that agree on every word of a set of places
@@ -91,6 +91,12 @@ pub data MoveWord (n : Counts) (c d j : ℕ) : Type 0 where
   of-mover : In (crewAt c) (n .depots) j → MoveWord n c d j
   of-stamps : (r x : ℕ) → r < n .shelves → x < n .depots → (x ≡ d → ⊥) → j ≡ seenAt d r + x → MoveWord n c d j
 
+-- crew c's vector, the stored versions of the bearings ks at depot d, and what raise and show touches at every shelf of it
+pub data ListWord (n : Counts) (l : List ℕ) (c : ℕ) (ks : List ℕ) (d j : ℕ) : Type 0 where
+  of-reader : In (crewAt c) (n .depots) j → ListWord n l c ks d j
+  of-listed : (i : ℕ) → i < length ks → In (storedAt d (getD ks i 0)) recordWords j → ListWord n l c ks d j
+  of-shelves : (s : ℕ) → s < n .shelves → ShowWord n l d s j → ListWord n l c ks d j
+
 -- word j is one that a request names in the book l. A setup names none: it asks for the length only. Every call names the counts and the homes; where
 -- these are fit and its numbers are in range, its parts too
 pub data Named (l : List ℕ) : Request → ℕ → Type 0 where
@@ -104,6 +110,8 @@ pub data Named (l : List ℕ) : Request → ℕ → Type 0 where
   by-refresh : {d s j : ℕ} → baseFit l ≡ true → d < countsOf l .depots → s < countsOf l .shelves → RefreshWord (countsOf l) l d s j →
       Named l (call (refresh d s)) j
   by-move : {c d j : ℕ} → baseFit l ≡ true → c < countsOf l .crews → d < countsOf l .depots → MoveWord (countsOf l) c d j → Named l (call (move c d)) j
+  by-list : {c j : ℕ} {ks : List ℕ} → baseFit l ≡ true → c < countsOf l .crews → isList ks ≡ true → allBelow (countsOf l .bearings) ks ≡ true →
+      ListWord (countsOf l) l c ks (home l c) j → Named l (call (list c ks)) j
 
 -- ---- the words that each request writes
 
@@ -130,6 +138,11 @@ pub data FoundWord (n : Counts) (l : List ℕ) (c d s j : ℕ) : Type 0 where
   the-crew : In (crewAt c) (n .depots) j → FoundWord n l c d s j
   the-home : SettledWord n l d s j → FoundWord n l c d s j
 
+-- a list: raise and show at every shelf, and the crew's entries
+pub data ListedWord (n : Counts) (l : List ℕ) (c d j : ℕ) : Type 0 where
+  the-reader : In (crewAt c) (n .depots) j → ListedWord n l c d j
+  the-shelves : (s : ℕ) → s < n .shelves → SettledWord n l d s j → ListedWord n l c d j
+
 -- a write: raise and show, the crew's entry of its home, the stored version of the bearing, and sending
 pub data WroteWord (n : Counts) (l : List ℕ) (c k d s j : ℕ) : Type 0 where
   the-own : j ≡ crewAt c + d → WroteWord n l c k d s j
@@ -146,6 +159,7 @@ pub data Changed (l : List ℕ) : Request → ℕ → Type 0 where
   taking : {d s from j : ℕ} → TookWord l d s from j → Changed l (call (take d s from)) j
   refreshing : {d s j : ℕ} → SettledWord (countsOf l) l d s j → Changed l (call (refresh d s)) j
   moving : {c d j : ℕ} → j ≡ homeAt c → Changed l (call (move c d)) j
+  listing : {c j : ℕ} {ks : List ℕ} → ListedWord (countsOf l) l c (home l c) j → Changed l (call (list c ks)) j
 
 -- word j is one that the request writes: a refused one writes none
 pub record Written (l : List ℕ) (r : Request) (j : ℕ) : Type 0 where

@@ -4,17 +4,18 @@
 use Prim.Native.Nat.{ℕ}
 use mathlib.Core.List.{List, [], _∷_}
 use Rattle.paper.specs.declared.answer.Payload.{Payload}
-use Rattle.paper.specs.Calls.{Call, read, write, tick, take, refresh, move, Answer, done, reads, answerBy}
-use Rattle.paper.specs.Answers.{paper, paperRead, paperWrite}
+use Rattle.paper.specs.Calls.{Call, read, write, tick, take, refresh, move, list, Answer, done, reads, listed, answerBy}
+use Rattle.paper.specs.Answers.{paper, paperRead, paperWrite, paperList}
 use Rattle.paper.specs.declared.answer.Answer as plain
 use Rattle.paper.specs.declared.answer.ReadAnswer.{ReadAnswer}
 use Rattle.paper.specs.declared.answer.WriteAnswer.{WriteAnswer}
+use Rattle.paper.specs.declared.answer.ListAnswer.{ListAnswer}
 use Rattle.book.specs.declared.parts.Counts.{Counts}
 use Rattle.book.specs.Layout.{countsOf}
 use Rattle.register.specs.Answers.{told, written}
-use Rattle.register.specs.Table.{setupNumber, readNumber, writeNumber, tickNumber, takeNumber, refreshNumber, moveNumber}
-use Rattle.register.specs.Calls.{setUp, readRecord, readBook, newStamp, isCurrent, writeBook, tickBook, takeBook, refreshBook, moveBook}
-use Rattle.register.specs.Promises.{after, Setup, Read, Write, Tick, Take, Refresh, Move}
+use Rattle.register.specs.Table.{setupNumber, readNumber, writeNumber, tickNumber, takeNumber, refreshNumber, moveNumber, listNumber}
+use Rattle.register.specs.Calls.{setUp, readRecord, readBook, newStamp, isCurrent, writeBook, tickBook, takeBook, refreshBook, moveBook, pageTold, listBook}
+use Rattle.register.specs.Promises.{after, Setup, Read, Write, Tick, Take, Refresh, Move, Listing}
 
 -- a setup (counts, homes), or a call
 pub data Request : Type 0 where
@@ -30,6 +31,7 @@ numberAt l (call (tick d s)) = tickNumber l d s
 numberAt l (call (take d s from)) = takeNumber l d s from
 numberAt l (call (refresh d s)) = refreshNumber l d s
 numberAt l (call (move c d)) = moveNumber l c d
+numberAt l (call (list c ks)) = listNumber l c ks
 
 -- what it answers where it is done
 unfoldable pub doneAnswer : List ℕ → Request → Answer
@@ -40,6 +42,7 @@ doneAnswer l (call (tick d s)) = done
 doneAnswer l (call (take d s from)) = done
 doneAnswer l (call (refresh d s)) = done
 doneAnswer l (call (move c d)) = done
+doneAnswer l (call (list c ks)) = listed (pageTold l c ks)
 
 -- the reply, done or refused
 unfoldable pub replyTo : List ℕ → Request → Answer
@@ -54,6 +57,7 @@ changedBy l (call (tick d s)) = tickBook l d s
 changedBy l (call (take d s from)) = takeBook l d s from
 changedBy l (call (refresh d s)) = refreshBook l d s
 changedBy l (call (move c d)) = moveBook l c d
+changedBy l (call (list c ks)) = listBook l c ks
 
 -- the book after it, done or refused
 unfoldable pub bookAfter : List ℕ → Request → List ℕ
@@ -68,6 +72,7 @@ pub data Called (l l′ : List ℕ) : Request → Answer → Type 0 where
   took : {d s from : ℕ} {r : plain.Answer} → Take l d s from r l′ → Called l l′ (call (take d s from)) (paper r)
   refreshed : {d s : ℕ} {r : plain.Answer} → Refresh l d s r l′ → Called l l′ (call (refresh d s)) (paper r)
   moved : {c d : ℕ} {r : plain.Answer} → Move l c d r l′ → Called l l′ (call (move c d)) (paper r)
+  did-list : {c : ℕ} {ks : List ℕ} {r : ListAnswer} → Listing l c ks r l′ → Called l l′ (call (list c ks)) (paperList r)
 
 -- requests, one after another, each as its promise has it, lead from a book to another
 pub data Lead : List ℕ → List ℕ → Type 0 where
