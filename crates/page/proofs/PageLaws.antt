@@ -180,13 +180,14 @@ pub list-told :
     (paperList a ≡ listed (map (λ k. told n (r k)) ks)) × HoldsAll (paperList a) a
 unfolding paperList paperListed tellings
 list-told n r ks {w} h a b e =
-    let back = ap (toldAll n (length ks)) e ∙ told-back n 8 (λ k. told n (r k)) (λ k. record-back n (r k) h) ks b in
-    (ap listed back,
+    let back = ap (toldAll n (length ks)) e ∙ told-back n 8 (λ k. told n (r k)) (λ k. record-back n (r k) h) ks b in (
+      ap listed back,
       record {
         words = e ∙ ap (pageWords 8) (sym back);
         bearings = sym (length-map ks (λ k. told n (r k))) ∙ ap (λ (ts : List Told). length ts) (sym back);
         depots = depots-told n (λ k. told n (r k)) ks (λ k. record-entries n (r k) h) a ∙ ap depotsTold (sym back);
-      })
+      },
+    )
 
 -- ---- from the numbers worked out to the crew and the bearings
 

@@ -35,7 +35,7 @@ use Rattle.upkeep.proofs.LocalSweep.{But, Holds, holds-same, shown-link
 -- ---- all the links of a shelf
 
 -- the set holds what showing the links into shelf s of depot d touches
-abbrev Incoming : (ℕ → Type 0) → ℕ → ℕ → ℕ → List ℕ → Type 0
+abbrev pub Incoming : (ℕ → Type 0) → ℕ → ℕ → ℕ → List ℕ → Type 0
 Incoming S n d s l = (from : ℕ) → from < n → (from ≡ d → ⊥) → Holds S d (linkOf s from d) l
 
 module _ (S : ℕ → Type 0) (n d s : ℕ) (l : List ℕ) (R : Ready n d s l) (links : Incoming S n d s l) where
@@ -86,7 +86,7 @@ module _ (S : ℕ → Type 0) (n d s : ℕ) (offered : Vec) (l : List ℕ) (R : 
       holds-same S d (linkOf s from d) l _ (length-merged n d offered (stableAt d s) l) (λ j x y. raised-off n d s offered l j (omega arith))
       (λ j x y. raised-off n d s offered l j (omega arith)) (links from k e)
 
-  settled-agrees :
+  pub settled-agrees :
       (other : Vec) (m : List ℕ) → ((x : ℕ) → x < n → S (stableAt d s + x)) → ((x : ℕ) → x < n → (x ≡ d → ⊥) → offered x ≡ other x) → Agree S l m →
       Agree S (settled n d s offered l) (settled n d s other m)
   unfolding settled shown
@@ -94,7 +94,7 @@ module _ (S : ℕ → Type 0) (n d s : ℕ) (offered : Vec) (l : List ℕ) (R : 
       turns-agree S n d s _ (raised-ready n d s offered l R) raised-holds _ stables
       (merged-agrees S n d (stableAt d s) offered other l m (λ x k f. stables x k) same A) n (le-refl _)
 
-settled-stays :
+pub settled-stays :
     (n d s : ℕ) (offered : Vec) (l : List ℕ) (j : ℕ) → Ready n d s l → ((x : ℕ) → x < n → (x ≡ d → ⊥) → j ≡ stableAt d s + x → ⊥) →
     Incoming (But j) n d s l → getD (settled n d s offered l) j 0 ≡ getD l j 0
 unfolding settled shown
@@ -111,7 +111,7 @@ settled-stays n d s offered l j R entries links =
 -- ---- by the words that are named
 
 -- a fit link, and the places of its taken copies
-arrival-holds :
+pub arrival-holds :
     (S : ℕ → Type 0) (n : Counts) (l : List ℕ) (d s from : ℕ) → linkFit n l s from (linkOf s from d) ≡ true → ((j : ℕ) → ArrivalWord n l d s from j → S j) →
     Holds S d (linkOf s from d) l
 arrival-holds S n l d s from f W =
@@ -126,7 +126,7 @@ arrival-holds S n l d s from f W =
     }
 
 -- fit parts that raise and show touches have fit links
-arrives :
+pub arrives :
     (n : Counts) (l : List ℕ) (d s : ℕ) → showFit n l d s ≡ true → (from : ℕ) → from < n .depots → (from ≡ d → ⊥) →
     linkFit n l s from (linkOf s from d) ≡ true
 unfolding showFit arrivalFit

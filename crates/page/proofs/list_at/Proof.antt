@@ -45,11 +45,14 @@ small c =
     let start = c .before .before .before .before .before .before in
     let w = base start in
     let n = sym (c .before .before .counts-of .ensures) in
-    let v = subst Within n (w .within) in
-    (v .depots, v .shelves, v .bearings,
+    let v = subst Within n (w .within) in (
+      v .depots,
+      v .shelves,
+      v .bearings,
       subst (λ (x : ℕ). x < 4) (sym (c .home-depot .ensures)) (lt-of-lt-of-le (w .homes _ (start .pre .1)) (w .within .depots)),
       lt-of-lt-of-le (start .pre .1) (w .within .crews),
-      subst (λ (m : Counts). allBelow (m .bearings) (now (start .args .bearings)) ≡ true) n (start .pre .3))
+      subst (λ (m : Counts). allBelow (m .bearings) (now (start .args .bearings)) ≡ true) n (start .pre .3),
+    )
 
 counts-of-requires : tie.Need-counts-of-requires
 counts-of-requires c κs = base (c .before .before .before) .full
@@ -57,9 +60,11 @@ counts-of-requires c κs = base (c .before .before .before) .full
 home-depot-requires : tie.Need-home-depot-requires
 home-depot-requires c κs =
     let start = c .before .before .before .before .before in
-    let w = base start in
-    (w .full, lt-of-lt-of-le (start .pre .1) (w .within .crews),
-      subst (λ (n : Counts). home (now (start .args .book)) (start .args .c .0) < n .depots) (sym (c .before .counts-of .ensures)) (w .homes _ (start .pre .1)))
+    let w = base start in (
+      w .full,
+      lt-of-lt-of-le (start .pre .1) (w .within .crews),
+      subst (λ (n : Counts). home (now (start .args .book)) (start .args .c .0) < n .depots) (sym (c .before .counts-of .ensures)) (w .homes _ (start .pre .1)),
+    )
 
 list-parts-fit-requires : tie.Need-list-parts-fit-requires
 list-parts-fit-requires c κs =
@@ -85,9 +90,11 @@ gather-requires c κs = let h = small (c .before .before .before .before .before
 settle-all-requires : tie.Need-settle-all-requires
 settle-all-requires c κs =
     let start = c .before .before .before .before .before .before .before .before .before .before .before .before .before .before .before .before .before in
-    let w = base start in
-    (w .full, c .before .before .before .gather .kept .1 .1 .1 .1 .0 ∙ ap (λ (v : List ℕ). length v) (c .before .before .before .before .before .before .crew-vector .ensures),
-      shelves-ready _ _ (c .before .before .before .before .before .before .before .before .before .before .before .before .before .counts-of .ensures) (c .before .before .before .before .before .before .before .before .before .before .before .home-depot .ensures) (now (start .args .bearings)) w (start .pre .1) (parts-fit (c .before .before .before .before .before .before .before .before)))
+    let w = base start in (
+      w .full,
+      c .before .before .before .gather .kept .1 .1 .1 .1 .0 ∙ ap (λ (v : List ℕ). length v) (c .before .before .before .before .before .before .crew-vector .ensures),
+      shelves-ready _ _ (c .before .before .before .before .before .before .before .before .before .before .before .before .before .counts-of .ensures) (c .before .before .before .before .before .before .before .before .before .before .before .home-depot .ensures) (now (start .args .bearings)) w (start .pre .1) (parts-fit (c .before .before .before .before .before .before .before .before)),
+    )
 
 tell-all-requires : tie.Need-tell-all-requires
 tell-all-requires c κs =

@@ -35,9 +35,13 @@ bearing-at-requires c κs = (c .loop-test .taken, c .before .before .before .bef
 
 merge-one-requires : tie.Need-merge-one-requires Inv-loop μ-loop
 merge-one-requires c κs =
-    let start = c .before .before .before .before .before .before in
-    (c .before .before .before .loop .inv .1 ∙ start .pre .0, start .pre .1, start .pre .3, start .pre .4,
-      subst (λ (k : ℕ). k < 160) (sym (c .before .bearing-at .ensures)) (lt-of-lt-of-le (below-at _ _ (start .pre .5) _ (c .before .before .loop-test .taken)) (start .pre .2)))
+    let start = c .before .before .before .before .before .before in (
+      c .before .before .before .loop .inv .1 ∙ start .pre .0,
+      start .pre .1,
+      start .pre .3,
+      start .pre .4,
+      subst (λ (k : ℕ). k < 160) (sym (c .before .bearing-at .ensures)) (lt-of-lt-of-le (below-at _ _ (start .pre .5) _ (c .before .before .loop-test .taken)) (start .pre .2)),
+    )
 
 loop-again : tie.Need-loop-again Inv-loop μ-loop
 loop-again c =

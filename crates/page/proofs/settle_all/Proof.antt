@@ -27,10 +27,12 @@ loop-holds c = (search needs, refl, times-none _ _)
 settle-requires : tie.Need-settle-requires Inv-loop μ-loop
 settle-requires c κs =
     let start = c .before .before .before .before .before .before in
-    let loop = c .before .before .before .loop in
-    (loop .inv .1 ∙ start .pre .0, start .pre .1,
+    let loop = c .before .before .before .loop in (
+      loop .inv .1 ∙ start .pre .0,
+      start .pre .1,
       subst (λ (x : ℕ). Ready (start .args .n) (start .args .d .0) x (loop .book)) (sym (c .nth .ensures))
-          (page-ready (start .args .n) (start .args .p) (start .args .d .0) (vectorIn (now (start .args .offered))) (now (start .args .book)) (start .pre .2) (loop .s) (c .before .before .loop-test .taken) (loop .inv .2)))
+          (page-ready (start .args .n) (start .args .p) (start .args .d .0) (vectorIn (now (start .args .offered))) (now (start .args .book)) (start .pre .2) (loop .s) (c .before .before .loop-test .taken) (loop .inv .2)),
+    )
 
 loop-again : tie.Need-loop-again Inv-loop μ-loop
 loop-again c =

@@ -44,20 +44,26 @@ tell-one-requires c κs =
     let start = c .before .before .before .before .before .before .before in
     let most = list-size-in _ (start .pre .4) .1 in
     let less = c .before .before .loop-test .taken in
-    let size = c .before .before .before .loop .inv .1 in
-    (start .pre .0, start .pre .1, start .pre .3,
+    let size = c .before .before .before .loop .inv .1 in (
+      start .pre .0,
+      start .pre .1,
+      start .pre .3,
       subst (λ (k : ℕ). k < 160) (sym (c .before .bearing-at .ensures)) (lt-of-lt-of-le (below-at _ _ (start .pre .5) _ (c .before .before .loop-test .taken)) (start .pre .2)),
-      omega (arith, most, less, size))
+      omega (arith, most, less, size),
+    )
 
 loop-again : tie.Need-loop-again Inv-loop μ-loop
 loop-again c =
     let call = c .before .before .tell-one in
     let loop = c .before .before .before .before .before .before .loop in
     let start = c .before .before .before .before .before .before .before .before .before .before in
-    let args = start .args in
-    (search needs, call .kept .1 .1 .1 .1 .0 ∙ loop .inv .1, call .kept .1 .1 .1 .1 .0 ∙ loop .inv .2,
+    let args = start .args in (
+      search needs,
+      call .kept .1 .1 .1 .1 .0 ∙ loop .inv .1,
+      call .kept .1 .1 .1 .1 .0 ∙ loop .inv .2,
       page-more _ _ (loop .i) (c .before .before .before .before .before .loop-test .taken) (list-size-in _ (start .pre .4) .1) (loop .inv .3)
-      (call .ensures ∙ ap (λ (k : ℕ). put (loop .words) (8 * loop .i) (toldWords (told (args .n .depots) (stored (now (args .book)) (args .d .0) k)))) (c .before .before .before .before .bearing-at .ensures)))
+          (call .ensures ∙ ap (λ (k : ℕ). put (loop .words) (8 * loop .i) (toldWords (told (args .n .depots) (stored (now (args .book)) (args .d .0) k)))) (c .before .before .before .before .bearing-at .ensures)),
+    )
 
 returns : tie.Need-returns Inv-loop μ-loop
 returns c = page-done _ _ _ (c .loop-test .left) (c .before .loop .inv .3)
