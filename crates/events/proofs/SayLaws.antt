@@ -13,13 +13,15 @@ use Rattle.loops.specs.Loops.{pick}
 use Rattle.order.specs.Record.{vectorOf}
 use Rattle.book.specs.Layout.{countsOf}
 use Rattle.shelf.proofs.FrameLaws.{pick-cases}
-use Rattle.paper.specs.Calls.{read, write, tick, take, refresh, move, Answer, answerBy}
-use Rattle.paper.specs.Answers.{entriesIn}
+use Rattle.paper.specs.Calls.{Answer, answerBy}
+use Rattle.paper.specs.Answers.{entriesIn, tellings}
+use Rattle.paper.specs.Requests.{requestIn}
 use Rattle.paper.specs.declared.request.Event.{Event}
+use Rattle.paper.specs.declared.request.Event.the-variants as event
 use Rattle.register.specs.Answers.{cut, written}
 use Rattle.register.specs.Calls.{readRecord}
 use Rattle.register.proofs.HomeLaws.{told-entries}
-use Rattle.upkeep.specs.Requests.{Request, setup, call, numberAt, doneAnswer, replyTo}
+use Rattle.upkeep.specs.Requests.{numberAt, doneAnswer, replyTo}
 use Rattle.calls.specs.Performed.{requestOf}
 use Rattle.line.specs.Grammar.{InGrammar}
 use Rattle.line.specs.Reading.{Reading, bad, good, reading, lineOf}
@@ -76,35 +78,38 @@ answered-reading l {l′} {o} {o′} {at} {r} p w = subst (λ (x : Reading). (l�
 
 -- ---- no answer is longer than its room
 
-written-few : (stamp : ℕ) (b : Bool) → length (entriesIn (written stamp b)) ≤ 4
-unfolding written pick entriesIn
-written-few stamp true = omega arith
-written-few stamp false = omega arith
+-- few entries, and no list
+abbrev Short : Answer → Type 0
+Short a = (length (entriesIn a) ≤ 4) × (length (tellings a) ≤ 0)
 
--- a read tells at most four entries, and nothing else tells any
-done-few : (l : List ℕ) (r : Request) → length (entriesIn (doneAnswer l r)) ≤ 4
-unfolding doneAnswer entriesIn cut
-done-few l (setup n homes) = omega arith
-done-few l (call (read c k)) =
+written-short : (stamp : ℕ) (b : Bool) → Short (written stamp b)
+unfolding written pick entriesIn tellings
+written-short stamp true = (omega arith, omega arith)
+written-short stamp false = (omega arith, omega arith)
+
+-- a read tells at most four entries, and nothing else that a line asks tells any
+done-short : (l : List ℕ) (e : Event) (ns : List ℕ) → Short (doneAnswer l (requestOf e ns))
+unfolding doneAnswer entriesIn tellings cut requestOf requestIn
+done-short l event.Setup ns = (omega arith, omega arith)
+done-short l event.Read ns =
     let n = countsOf l .depots in
-    let u = vectorOf (readRecord l c k) in
-    let part = length-take n (cut n u) in
-    let same = ap (λ (v : List ℕ). length v) (told-entries n (readRecord l c k)) in
-    omega arith
-done-few l (call (write c k payload)) = written-few _ _
-done-few l (call (tick d s)) = omega arith
-done-few l (call (take d s from)) = omega arith
-done-few l (call (refresh d s)) = omega arith
-done-few l (call (move c d)) = omega arith
+    let r = readRecord l (list.getD ns 0 0) (list.getD ns 1 0) in
+    let part = length-take n (cut n (vectorOf r)) in
+    let same = ap (λ (v : List ℕ). length v) (told-entries n r) in
+    (omega arith, omega arith)
+done-short l event.Write ns = written-short _ _
+done-short l event.Tick ns = (omega arith, omega arith)
+done-short l event.Take ns = (omega arith, omega arith)
+done-short l event.Refresh ns = (omega arith, omega arith)
 
-reply-few : (l : List ℕ) (r : Request) → length (entriesIn (replyTo l r)) ≤ 4
-unfolding replyTo answerBy entriesIn
-reply-few l r = pick-cases (λ (a : Answer). length (entriesIn a) ≤ 4) (eqb (numberAt l r) 0) _ _ (λ z. done-few l r) λ z. omega arith
+reply-short : (l : List ℕ) (e : Event) (ns : List ℕ) → Short (replyTo l (requestOf e ns))
+unfolding replyTo answerBy entriesIn tellings
+reply-short l e ns = pick-cases Short (eqb (numberAt l (requestOf e ns)) 0) _ _ (λ z. done-short l e ns) λ z. (omega arith, omega arith)
 
 pub reading-length : (l : List ℕ) (r : Reading) → length (readingSays l r) < answerRoom
 unfolding readingSays eventSays
 reading-length l bad = let h = decimal-length 13 in omega arith
-reading-length l (good e ns) = printed-length _ (reply-few l (requestOf e ns))
+reading-length l (good e ns) = let h = reply-short l e ns in printed-length _ (h .0) (h .1)
 
 pub answer-length : (l s : List ℕ) → length (answerTo l s) ≤ answerRoom
 unfolding answerTo

@@ -3,28 +3,32 @@
 use Prim.Native.Nat.{ℕ, _+_, _≤_, _<_}
 use native.Mathlib.Omega.{arith}
 use mathlib.Core.Path.{_≡_, sym, ap}
-use mathlib.Core.List.{List}
+use mathlib.Core.List.{List, [], _∷_}
 use mathlib.Core.Bool.{true, false}
-use lib.ListN.{length, take, length-take}
-use Rattle.paper.specs.Calls.{Answer, refused, done, reads, read-value, read-unwritten, current, superseded}
-use Rattle.paper.specs.Answers.{paperOutcome, onPaper, entriesIn, padded, Holds}
+use lib.ListN.{length, take, length-take, length-append}
+use Rattle.paper.specs.Calls.{Answer, refused, done, reads, read-value, read-unwritten, current, superseded, listed}
+use Rattle.paper.specs.Answers.{paperOutcome, onPaper, entriesIn, padded, Holds, tellings}
 use Rattle.paper.specs.declared.answer.Outcome.{Outcome}
 use Rattle.paper.specs.declared.answer.Reply.{Reply}
+use Rattle.line.specs.Answers.{numberAnswer}
 use Rattle.line.specs.Printing.{Room, Wrote}
 use Rattle.line.proofs.PrintLaws.{wrote-same, decimal-length, value-answer-length, unwritten-answer-length, stamp-answer-length}
-use Rattle.reply.specs.Printed.{printed, answerRoom}
+use Rattle.reply.specs.Printed.{toldAnswers, printed, answerRoom}
 
-pub printed-length : (a : Answer) → length (entriesIn a) ≤ 4 → length (printed a) < answerRoom
-unfolding printed entriesIn
-printed-length (refused n) h = let l = decimal-length n in omega arith
-printed-length done h = let l = decimal-length 0 in omega arith
-printed-length (reads (read-value p entries)) h = let l = value-answer-length p entries in omega arith
-printed-length (reads (read-unwritten entries)) h = let l = unwritten-answer-length entries in omega arith
-printed-length (current stamp) h = let l = stamp-answer-length stamp true in omega arith
-printed-length (superseded stamp) h = let l = stamp-answer-length stamp false in omega arith
+-- of what is not a list
+pub printed-length : (a : Answer) → length (entriesIn a) ≤ 4 → length (tellings a) ≤ 0 → length (printed a) < answerRoom
+unfolding printed entriesIn tellings toldAnswers
+printed-length (refused n) h k = let l = decimal-length n in omega arith
+printed-length done h k = let l = decimal-length 0 in omega arith
+printed-length (reads (read-value p entries)) h k = let l = value-answer-length p entries in omega arith
+printed-length (reads (read-unwritten entries)) h k = let l = unwritten-answer-length entries in omega arith
+printed-length (current stamp) h k = let l = stamp-answer-length stamp true in omega arith
+printed-length (superseded stamp) h k = let l = stamp-answer-length stamp false in omega arith
+printed-length (listed []) h k = let l = decimal-length 0 in let e = length-append (numberAnswer 0) [] in omega arith
+printed-length (listed (t ∷ ts)) h k = absurd (omega arith)
 
-pub printed-room : {o : List ℕ} {at : ℕ} (a : Answer) → length (entriesIn a) ≤ 4 → at + answerRoom ≤ length o → Room o at (printed a)
-printed-room a h k = let l = printed-length a h in record { room = omega arith }
+pub printed-room : {o : List ℕ} {at : ℕ} (a : Answer) → length (entriesIn a) ≤ 4 → length (tellings a) ≤ 0 → at + answerRoom ≤ length o → Room o at (printed a)
+printed-room a h z k = let l = printed-length a h z in record { room = omega arith }
 
 -- ---- a reply whose vector holds what it tells
 

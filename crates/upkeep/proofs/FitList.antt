@@ -178,7 +178,7 @@ module _ (l : List ℕ) (c : ℕ) (ks : List ℕ) (t : ListDone l c ks) where
   arrive : (s : ℕ) → s < countsOf l .shelves → Arrivals (countsOf l) l (home l c) s
   arrive s k = show-arrivals (countsOf l) l (home l c) s (shows s k)
 
-  offers : (x : ℕ) → x < countsOf l .depots → (x ≡ home l c → ⊥) → pageVector l c x ≤ end
+  pub offers : (x : ℕ) → x < countsOf l .depots → (x ≡ home l c → ⊥) → pageVector l c x ≤ end
   unfolding pageVector showFit
   offers =
       gathered-range (countsOf l .depots) (countsOf l .shelves) (home l c) l (fourOf (crewVector l c)) (B .within .depots) refl

@@ -81,7 +81,7 @@ gathered-agrees n p d l m u w size stables same x k =
 
 -- ---- the listed bearings, one by one
 
-map-alike : {A : Type 0} (f g : ℕ → A) (ks : List ℕ) → ((i : ℕ) → i < length ks → f (getD ks i 0) ≡ g (getD ks i 0)) → map f ks ≡ map g ks
+pub map-alike : {A : Type 0} (f g : ℕ → A) (ks : List ℕ) → ((i : ℕ) → i < length ks → f (getD ks i 0) ≡ g (getD ks i 0)) → map f ks ≡ map g ks
 map-alike f g [] h = refl
 map-alike f g (k ∷ ks) h = ap₂ (λ (a : _) (r : List _). a ∷ r) (h 0 (omega arith)) (map-alike f g ks (λ i z. h (suc i) (omega arith)))
 

@@ -3,7 +3,7 @@
 use native.Mathlib.Omega.{arith}
 use mathlib.Core.Path.{ap}
 use Rattle.paper.specs.Calls.{refused, done, reads, read-value, read-unwritten, current, superseded}
-use Rattle.paper.specs.Answers.{paperOutcome, entriesIn}
+use Rattle.paper.specs.Answers.{paperOutcome, entriesIn, tellings}
 use Rattle.line.specs.Answers.{numberAnswer}
 use Rattle.line.proofs.PrintLaws.{wrote-same}
 use Rattle.reply.specs.Printed.{printed}
@@ -13,34 +13,34 @@ use Rattle.reply.proofs.say.Statement.{statement}
 use Rattle.reply.proofs.say.Tie as tie
 
 answer-number-requires : tie.Need-answer-number-requires
-unfolding printed entriesIn
-answer-number-requires c κs = printed-room done (omega arith) (c .before .before .before .before .before .pre .1)
+unfolding printed entriesIn tellings
+answer-number-requires c κs = printed-room done (omega arith) (omega arith) (c .before .before .before .before .before .pre .1)
 
 answer-value-requires : tie.Need-answer-value-requires
-unfolding printed entriesIn
+unfolding printed entriesIn tellings
 answer-value-requires c κs =
     let start = c .before .before .before .before .before .before .before in
     let few = holds-few _ (start .pre .0) in
-    (omega (arith, few .words, few .counted), printed-room (reads (read-value _ _)) (few .entries) (start .pre .1))
+    (omega (arith, few .words, few .counted), printed-room (reads (read-value _ _)) (few .entries) (omega arith) (start .pre .1))
 
 answer-unwritten-requires : tie.Need-answer-unwritten-requires
-unfolding printed entriesIn
+unfolding printed entriesIn tellings
 answer-unwritten-requires c κs =
     let start = c .before .before .before .before .before .before in
     let few = holds-few _ (start .pre .0) in
-    (omega (arith, few .words, few .counted), printed-room (reads (read-unwritten _)) (few .entries) (start .pre .1))
+    (omega (arith, few .words, few .counted), printed-room (reads (read-unwritten _)) (few .entries) (omega arith) (start .pre .1))
 
 answer-stamp-requires : tie.Need-answer-stamp-requires
-unfolding printed entriesIn
-answer-stamp-requires c κs = printed-room (current _) (omega arith) (c .before .before .before .before .before .before .pre .1)
+unfolding printed entriesIn tellings
+answer-stamp-requires c κs = printed-room (current _) (omega arith) (omega arith) (c .before .before .before .before .before .before .pre .1)
 
 answer-stamp-requires-2 : tie.Need-answer-stamp-requires-2
-unfolding printed entriesIn
-answer-stamp-requires-2 c κs = printed-room (superseded _) (omega arith) (c .before .before .before .before .before .before .pre .1)
+unfolding printed entriesIn tellings
+answer-stamp-requires-2 c κs = printed-room (superseded _) (omega arith) (omega arith) (c .before .before .before .before .before .before .pre .1)
 
 answer-number-requires-2 : tie.Need-answer-number-requires-2
-unfolding printed entriesIn
-answer-number-requires-2 c κs = printed-room (refused _) (omega arith) (c .before .before .before .before .before .before .before .pre .1)
+unfolding printed entriesIn tellings
+answer-number-requires-2 c κs = printed-room (refused _) (omega arith) (omega arith) (c .before .before .before .before .before .before .before .pre .1)
 
 returns : tie.Need-returns
 unfolding printed paperOutcome

@@ -4,7 +4,7 @@ use native.Mathlib.Omega.{arith}
 use mathlib.Core.Path.{refl}
 use Rattle.events.specs.Answering.{readingBook, readingSays}
 use Rattle.paper.specs.Calls.{refused}
-use Rattle.paper.specs.Answers.{entriesIn}
+use Rattle.paper.specs.Answers.{entriesIn, tellings}
 use Rattle.reply.specs.Printed.{printed}
 use Rattle.reply.proofs.RoomLaws.{printed-room}
 use Rattle.line.proofs.Theorems.{says-read}
@@ -14,8 +14,8 @@ use Rattle.events.proofs.answer.say_line.Statement.{statement}
 use Rattle.events.proofs.answer.say_line.Tie as tie
 
 answer-number-requires : tie.Need-answer-number-requires
-unfolding printed entriesIn
-answer-number-requires c κs = printed-room (refused 13) (omega arith) (c .before .before .before .before .before .before .before .before .pre)
+unfolding printed entriesIn tellings
+answer-number-requires c κs = printed-room (refused 13) (omega arith) (omega arith) (c .before .before .before .before .before .before .before .before .pre)
 
 array-share-prefix-numbers : tie.Need-array-share-prefix-numbers
 array-share-prefix-numbers c =
