@@ -10,18 +10,21 @@ use Rattle.order.specs.Vector.{Vec}
 use Rattle.loops.proofs.BoolLaws.{and-intro, pick-true}
 use Rattle.book.specs.Layout.{home, crewVector, clock, stable, seen, linkOf, held, stored}
 use Rattle.fit.specs.Fit.{fit}
-use Rattle.register.specs.Calls.{readRecord, madeRecord}
+use Rattle.register.specs.Table.{listNumber}
+use Rattle.register.specs.Calls.{readRecord, madeRecord, pageBook}
+use Rattle.register.proofs.ListTable.{list-done}
 use Rattle.paper.specs.declared.answer.Payload.{Payload}
-use Rattle.model.specs.Parts.{Counts, Write, Shelf, State, put}
-use Rattle.model.specs.Rules.{settled, holds}
-use Rattle.model.specs.Calls.{made, answered, homeShelf, shelfOf}
+use Rattle.model.specs.Parts.{Counts, Write, Message, Shelf, State, put}
+use Rattle.model.specs.Rules.{settled, holds, copies}
+use Rattle.model.specs.Calls.{made, answered, onPage, homeShelf, shelfOf}
 use Rattle.model.proofs.Places.{Other, other-intro}
-use Rattle.bridge.specs.View.{countsIn, entriesAt, versionOf, writeOf, storeAt, shelfAt, viewBy, view}
+use Rattle.bridge.specs.View.{countsIn, entriesAt, versionOf, writeOf, takenOn, untakenOn, storeAt, shelfAt, viewBy, view}
 use Rattle.bridge.proofs.Sound.{Sound, sound}
-use Rattle.bridge.proofs.Looks.{shelf-here, crew-here, home-here, holds-here}
+use Rattle.bridge.proofs.Looks.{shelf-here, crew-here, home-here, holds-here, taken-here, untaken-here}
 use Rattle.bridge.proofs.Numbers.{home-clock}
 use Rattle.bridge.proofs.HomeView.{home-stored}
 use Rattle.bridge.proofs.MadeView.{newVector, made-write}
+use Rattle.bridge.proofs.ListCall.{on-page-here}
 
 pub record Agrees (π : Counts) (σ : State) (l : List ℕ) : Type 0 where
   pub fits : fit l ≡ true
@@ -76,6 +79,12 @@ module _ (π : Counts) (σ : State) (l : List ℕ) (A : Agrees π σ l) where
   held-by d s o kd ks ko =
       ap (holds o) (shelf-by d s kd ks) ∙ holds-here π l d s o ko (sound-by .links s o d ks (ko .below) kd (ko .apart) .order)
 
+  pub taken-by : (d s o : ℕ) → d < π .depots → s < π .shelves → Other (π .depots) d o → σ .shelf d s .taken o ≡ takenOn (π .depots) l (linkOf s o d)
+  taken-by d s o kd ks ko = ap (λ (h : Shelf). h .taken o) (shelf-by d s kd ks) ∙ taken-here π l d s o ko
+
+  pub coming-by : (d s o : ℕ) → d < π .depots → s < π .shelves → Other (π .depots) d o → copies (σ .shelf d s .untaken o) ≡ copies (untakenOn (π .depots) l (linkOf s o d))
+  coming-by d s o kd ks ko = ap (λ (h : Shelf). copies (h .untaken o)) (shelf-by d s kd ks) ∙ ap (λ (m : List Message). copies m) (untaken-here π l d s o ko)
+
   pub on-shelf : (k : ℕ) → k % π .shelves < π .shelves
   on-shelf k = mod-lt k (sound-by .small .shelf)
 
@@ -104,3 +113,9 @@ module _ (π : Counts) (σ : State) (l : List ℕ) (A : Agrees π σ l) where
       ap (λ (p : Counts). versionOf (p .depots) (readRecord l c k)) (sym (A .counts))
       ∙ answered-here l (A .fits) c k (subst (λ (p : Counts). c < p .crews) (sym (A .counts)) kc) (subst (λ (p : Counts). k < p .bearings) (sym (A .counts)) kk)
       ∙ ap₂ (λ (p : Counts) (τ : State). answered p c k τ) (A .counts) (A .views)
+
+  pub on-page-by : (c : ℕ) (ks : List ℕ) (k : ℕ) → listNumber l c ks ≡ 0 → k < π .bearings → versionOf (π .depots) (stored (pageBook l c) (home l c) k) ≡ onPage π c k σ
+  on-page-by c ks k z kk =
+      ap (λ (p : Counts). versionOf (p .depots) (stored (pageBook l c) (home l c) k)) (sym (A .counts))
+      ∙ on-page-here l (A .fits) c ks (list-done l c ks z) k (subst (λ (p : Counts). k < p .bearings) (sym (A .counts)) kk)
+      ∙ ap₂ (λ (p : Counts) (τ : State). onPage p c k τ) (A .counts) (A .views)

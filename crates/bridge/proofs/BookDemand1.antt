@@ -9,6 +9,7 @@ use mathlib.Core.List.{List, _∷_}
 use lib.Dec.{eqb}
 use borrow.Author.Tests.{eq-eqb}
 use Rattle.loops.proofs.BoolLaws.{pick-true}
+use Rattle.loops.proofs.LoopLaws.{times-keeps}
 use Rattle.order.proofs.VectorLaws.{length-merged, merged-other}
 use Rattle.book.specs.declared.parts.Counts.{Counts}
 use Rattle.book.specs.Layout.{storedAt, crewAt, countsOf, home, stored}
@@ -25,8 +26,8 @@ use Rattle.upkeep.proofs.NeverBadAnswer.{settled, refused-stays}
 use Rattle.model.specs.Parts as model
 use Rattle.model.specs.Parts.{State}
 use Rattle.model.specs.Rules as rules
-use Rattle.paper.specs.Calls.{Call, read, write, tick, take, refresh, move, reads, answerBy}
-use Rattle.model.specs.Calls.{refusal, reading, acted}
+use Rattle.paper.specs.Calls.{Call, read, write, tick, take, refresh, move, list, reads, answerBy}
+use Rattle.model.specs.Calls.{refusal, reading, listing, paged, acted}
 use Rattle.model.specs.System.{after, run}
 use Rattle.model.proofs.Places.{put-other}
 use Rattle.bridge.specs.View.{toModel}
@@ -42,12 +43,13 @@ use Rattle.bridge.proofs.Followed.{followed}
 
 module _ (π : model.Counts) where
   acted-home : (σ : State) (q : Call) (c : ℕ) → ((d : ℕ) → q ≡ move c d → ⊥) → acted π σ q .state .home c ≡ σ .home c
-  unfolding acted reading rules.send rules.emit rules.settle rules.keep model.setShelf model.setCrew model.setHome
+  unfolding acted reading listing paged rules.send rules.emit rules.settle rules.keep model.setShelf model.setCrew model.setHome
   acted-home σ (read b k) c n = refl
   acted-home σ (write b k payload) c n = refl
   acted-home σ (tick d s) c n = refl
   acted-home σ (take d s from) c n = refl
   acted-home σ (refresh d s) c n = refl
+  acted-home σ (list b ks) c n = times-keeps (λ (τ : State). τ .home c ≡ σ .home c) (π .shelves) _ σ (λ s τ k e. e) refl
   acted-home σ (move b d) c n = put-other b d (σ .home) c (λ e. n d (ap (λ (x : ℕ). move x d) (sym e)))
 
   run-home : (homes : List ℕ) (h : List Call) (q : Call) (c : ℕ) → ((d : ℕ) → q ≡ move c d → ⊥) → run π homes (q ∷ h) .home c ≡ run π homes h .home c

@@ -4,7 +4,8 @@ use Prim.Native.Nat.{ℕ, _<_}
 use native.Mathlib.Omega.{arith}
 use mathlib.Core.Path.{_≡_, refl, sym, _∙_, ap₂, subst}
 use mathlib.Core.Bool.{true}
-use mathlib.Core.List.{List, [], _∷_, map}
+use mathlib.Core.Logic.{inl, inr}
+use mathlib.Core.List.{List, [], _∷_, map, List·Memᴰ}
 use Rattle.book.specs.declared.parts.Counts as book
 use Rattle.fit.specs.Fit.{fit}
 use Rattle.register.specs.Table as table
@@ -12,11 +13,11 @@ use Rattle.register.specs.Calls.{setUp}
 use Rattle.upkeep.proofs.FitSetup.{setup-fit}
 use Rattle.model.specs.Parts.{Counts, Version, State, fresh}
 use Rattle.paper.specs.declared.answer.Payload.{Payload}
-use Rattle.paper.specs.Calls.{Call, read, write, tick, take, refresh, move, Answer}
+use Rattle.paper.specs.Calls.{Call, read, write, tick, take, refresh, move, list, Answer}
 use Rattle.model.specs.Calls.{shelfOf, made, refusal, step, answers, ends}
 use Rattle.model.specs.System.{after, ofModel, run}
 use Rattle.model.specs.Follows.{Alike, Follows}
-use Rattle.model.proofs.Refusals.{read-passed, write-passed, waits-crew}
+use Rattle.model.proofs.Refusals.{read-passed, write-passed, list-passed, waits-crew}
 use Rattle.model.proofs.Transfer.{sees}
 use Rattle.bridge.specs.View.{toModel, countsIn, view}
 use Rattle.bridge.specs.Bridged.{Bridged}
@@ -28,9 +29,10 @@ use Rattle.bridge.proofs.TickCall.{tick-bridge}
 use Rattle.bridge.proofs.TakeCall.{take-bridge}
 use Rattle.bridge.proofs.RefreshCall.{refresh-bridge}
 use Rattle.bridge.proofs.MoveCall.{move-number, move-bridge}
+use Rattle.bridge.proofs.ListCall.{listed-below, list-number, list-bridge}
 use Rattle.bridge.proofs.ReadCall.{read-bridge}
 use Rattle.bridge.proofs.WriteCall.{write-bridge}
-use Rattle.bridge.proofs.Agrees.{Agrees, clock-by, stable-by, seen-by, held-by, store-by, crew-by, home-by, home-below-by, made-by, answered-by}
+use Rattle.bridge.proofs.Agrees.{Agrees, clock-by, stable-by, seen-by, held-by, taken-by, coming-by, store-by, crew-by, home-by, home-below-by, made-by, answered-by, on-page-by}
 
 -- ---- one call
 
@@ -43,6 +45,7 @@ module _ (l : List ℕ) (F : fit l ≡ true) where
   call-step (take d s from) = take-bridge l F d s from _ _ refl refl
   call-step (refresh d s) = refresh-bridge l F d s _ _ refl refl
   call-step (move c d) = move-bridge l F c d _ _ refl refl
+  call-step (list c ks) = list-bridge l F c ks _ _ refl refl
 
   call-number : (q : Call) → numberAt l (call q) ≡ refusal (countsIn l) (view l) q
   unfolding numberAt
@@ -52,6 +55,7 @@ module _ (l : List ℕ) (F : fit l ≡ true) where
   call-number (take d s from) = take-number l F d s from
   call-number (refresh d s) = refresh-number l F d s
   call-number (move c d) = move-number l F c d
+  call-number (list c ks) = list-number l F c ks
 
 -- ---- a book that is seen as a state
 
@@ -92,6 +96,29 @@ module _ (l₀ : List ℕ) (n : book.Counts) (homes : List ℕ) (done : table.se
   by-read : (σ : State) (q : Call) (c k : ℕ) → q ≡ read c k → refusal π σ q ≡ 0 → (c < π .crews) × (k < π .bearings)
   by-read σ q c k e p = let w = read-passed π σ c k (subst (λ q. refusal π σ q ≡ 0) e p) in (w .crew, w .bearing)
 
+  by-list : (σ : State) (q : Call) (c k : ℕ) (ks : List ℕ) → q ≡ list c ks → List·Memᴰ k ks → refusal π σ q ≡ 0 → (c < π .crews) × (k < π .bearings)
+  by-list σ q c k ks e m p = let w = list-passed π σ c ks (subst (λ q. refusal π σ q ≡ 0) e p) in (w .crew, listed-below (π .bearings) k ks (w .below) m)
+
+  -- a list that the model does, the book does
+  done-list : (l : List ℕ) (σ : State) → Agrees π σ l → (q : Call) (c : ℕ) (ks : List ℕ) → q ≡ list c ks → refusal π σ q ≡ 0 → table.listNumber l c ks ≡ 0
+  unfolding numberAt
+  done-list l σ A q c ks e p = number-by π σ l A (list c ks) ∙ subst (λ q. refusal π σ q ≡ 0) e p
+
+  named-by : (σ : State) (q : Call) (c k : ℕ) (v : Version) → refusal π σ q ≡ 0 → ofModel π homes .gets σ q c k v → (c < π .crews) × (k < π .bearings)
+  named-by σ q c k v p (inl g) = by-read σ q c k (g .0) p
+  named-by σ q c k v p (inr g) = by-list σ q c k (g .0) (g .1) (g .2) p
+
+  module _ (l : List ℕ) (σ : State) (A : Agrees π σ l) (q : Call) (c k : ℕ) (v : Version) (p : refusal π σ q ≡ 0) where
+    gets-to : ofBooks n homes .gets l q c k v → ofModel π homes .gets σ q c k v
+    gets-to (inl g) = let a = by-read σ q c k (g .0) p in inl (g .0, g .1 ∙ answered-by π σ l A c k (a .0) (a .1))
+    gets-to (inr g) =
+        inr (g .0, g .1, g .2, g .3 ∙ on-page-by π σ l A c (g .0) k (done-list l σ A q c (g .0) (g .1) p) (by-list σ q c k (g .0) (g .1) (g .2) p .1))
+
+    gets-from : ofModel π homes .gets σ q c k v → ofBooks n homes .gets l q c k v
+    gets-from (inl g) = let a = by-read σ q c k (g .0) p in inl (g .0, g .1 ∙ sym (answered-by π σ l A c k (a .0) (a .1)))
+    gets-from (inr g) =
+        inr (g .0, g .1, g .2, g .3 ∙ sym (on-page-by π σ l A c (g .0) k (done-list l σ A q c (g .0) (g .1) p) (by-list σ q c k (g .0) (g .1) (g .2) p .1)))
+
   alike : (l : List ℕ) (σ : State) → Agrees π σ l → Alike π (ofBooks n homes) (ofModel π homes) l σ
   unfolding made shelfOf
   alike l σ A = record {
@@ -103,12 +130,14 @@ module _ (l₀ : List ℕ) (n : book.Counts) (homes : List ℕ) (done : table.se
     stable = λ d s x hd hs hx. sym (stable-by π σ l A d s x hd hs hx);
     seen = λ d s x hd hs hx n. sym (seen-by π σ l A d s x hd hs (record { below = hx; apart = n }));
     held = λ d s o hd hs ho n. sym (held-by π σ l A d s o hd hs (record { below = ho; apart = n }));
+    taken = λ d s o hd hs ho n. sym (taken-by π σ l A d s o hd hs (record { below = ho; apart = n }));
+    coming = λ d s o hd hs ho n. sym (coming-by π σ l A d s o hd hs (record { below = ho; apart = n }));
     store = λ d k hd hk. sym (store-by π σ l A d k hd hk);
     makes-to = λ q c w p m. (m .0, m .1, m .2 ∙ made-by π σ l A c (w .bearing) (m .0) (by-write σ q c _ _ (m .1) p .0));
     makes-from = λ q c w p m. (m .0, m .1, m .2 ∙ sym (made-by π σ l A c (w .bearing) (m .0) (by-write σ q c _ _ (m .1) p .0)));
-    gets-to = λ q c k v p g. let a = by-read σ q c k (g .0) p in (g .0, g .1 ∙ answered-by π σ l A c k (a .0) (a .1));
-    gets-from = λ q c k v p g. let a = by-read σ q c k (g .0) p in (g .0, g .1 ∙ sym (answered-by π σ l A c k (a .0) (a .1)));
-    reads = λ q c k v p g. by-read σ q c k (g .0) p;
+    gets-to = gets-to l σ A;
+    gets-from = gets-from l σ A;
+    reads = named-by σ;
     writes = λ q c w p m.
         let a = by-write σ q c _ _ (m .1) p in
         (a .0, a .1, subst (λ (v : Version). v .origin < π .depots) (sym (m .2)) (housed π σ l A c (a .0)));

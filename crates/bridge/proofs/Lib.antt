@@ -16,6 +16,7 @@ pub mod TickCall
 pub mod TakeCall
 pub mod RefreshCall
 pub mod MoveCall
+pub mod ListCall
 pub mod CrewView
 pub mod HomeView
 pub mod ReadCall

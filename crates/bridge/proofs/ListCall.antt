@@ -6,7 +6,7 @@ use native.Mathlib.Omega.{arith}
 use mathlib.Core.Path.{_≡_, refl, sym, _∙_, ap, ap₂, fun-ext, subst}
 use mathlib.Core.Logic.{inl, inr, ⊎-elim}
 use mathlib.Core.Bool.{Bool, true, false, not}
-use mathlib.Core.List.{List, [], _∷_, map, List·Memᴰ}
+use mathlib.Core.List.{List, [], _∷_, map, List·Memᴰ, List·Memᴰ·cases-cons, List·Memᴰ·not-nil}
 use lib.Dec.{eqb, ltb, leb}
 use lib.ListN.{length, getD}
 use borrow.Author.Tests.{lt-ltb, ltb-true, ltb-false, leb-false, eq-eqb}
@@ -74,6 +74,16 @@ list-number l F c ks =
     pick-false _ _ (fit-passes (fit-list l F c ks))
     ∙ ap (λ (b : Bool). pick (leb (countsIn l .crews) c) 5 (pick (not (isList ks)) 15 (pick (not b) 4 0))) (below-same (countsIn l .bearings) ks)
 
+-- so each that is listed is
+pub listed-below : (n k : ℕ) (ks : List ℕ) → calls.allBelow n ks ≡ true → List·Memᴰ k ks → k < n
+unfolding calls.allBelow
+listed-below n k [] h m = absurd (List·Memᴰ·not-nil m)
+listed-below n k (j ∷ ks) h m =
+    ⊎-elim
+    (λ (e : k ≡ j). subst (λ (i : ℕ). i < n) (sym e) (ltb-true j n (and-left (ltb j n) _ h)))
+    (λ (t : List·Memᴰ k ks). listed-below n k ks (and-right (ltb j n) _ h) t)
+    (List·Memᴰ·cases-cons m)
+
 -- ---- maxima, one after the other
 
 times-front : {A : Type 0} (n : ℕ) (g : ℕ → A → A) (a : A) → times (suc n) g a ≡ times n (λ i. g (suc i)) (g 0 a)
@@ -83,11 +93,10 @@ times-front (suc n) g a = ap (g (suc n)) (times-front n g a)
 
 -- what is gathered, entry by entry
 gathered-at : (u : Vec) (f : ℕ → Vec) (ks : List ℕ) (x : ℕ) → calls.gathered u f ks x ≡ times (length ks) (λ i y. max y (f (getD ks i 0) x)) (u x)
-unfolding calls.gathered
-gathered-at u f [] x = unfold times in refl
+unfolding calls.gathered times merged
+gathered-at u f [] x = refl
 gathered-at u f (k ∷ ks) x =
     gathered-at (merged u (f k)) f ks x
-    ∙ (unfold merged in refl)
     ∙ sym (times-front (length ks) (λ i y. max y (f (getD (k ∷ ks) i 0) x)) (u x))
 
 module _ (l : List ℕ) (F : fit l ≡ true) (c : ℕ) (ks : List ℕ) (o : ListDone l c ks) where
@@ -126,11 +135,12 @@ module _ (l : List ℕ) (F : fit l ≡ true) (c : ℕ) (ks : List ℕ) (o : List
   gathers x kx f (suc i) k =
       let h = gathers x kx f i (omega arith) in
       let size = h .0 in
-      let a = S .small .depots in
-      (length-merged (countsIn l .depots) (home l c) (stable l (home l c) i) 0 _ ∙ h .0,
+      let a = S .small .depots in (
+        length-merged (countsIn l .depots) (home l c) (stable l (home l c) i) 0 _ ∙ h .0,
         ap (λ (y : ℕ). getD (mergedAt (countsIn l .depots) (home l c) (stable l (home l c) i) 0 (times i (λ s u. mergedAt (countsIn l .depots) (home l c) (stable l (home l c) s) 0 u) (fourOf (crewVector l c)))) y 0) (sym (zero-add x))
-        ∙ merged-entry (countsIn l .depots) (home l c) (stable l (home l c) i) 0 _ (omega (arith, size)) x kx f
-        ∙ ap₂ max (ap (λ (y : ℕ). getD (times i (λ s u. mergedAt (countsIn l .depots) (home l c) (stable l (home l c) s) 0 u) (fourOf (crewVector l c))) y 0) (zero-add x) ∙ h .1) (sym (stable-here i x k kx)))
+            ∙ merged-entry (countsIn l .depots) (home l c) (stable l (home l c) i) 0 _ (omega (arith, size)) x kx f
+            ∙ ap₂ max (ap (λ (y : ℕ). getD (times i (λ s u. mergedAt (countsIn l .depots) (home l c) (stable l (home l c) s) 0 u) (fourOf (crewVector l c))) y 0) (zero-add x) ∙ h .1) (sym (stable-here i x k kx)),
+      )
 
   offered : (x : ℕ) → x < countsIn l .depots → (x ≡ home l c → ⊥) → words.pageVector l c x ≡ modelVector (home l c) x
   unfolding words.pageVector words.gatheredFrom modelVector
@@ -270,10 +280,6 @@ module _ (l : List ℕ) (F : fit l ≡ true) (c : ℕ) (ks : List ℕ) (o : List
   leaves : view (words.listBook l c ks) ≡ calls.acted (countsIn l) (view l) (list c ks) .state
   unfolding calls.acted calls.listing calls.paged calls.pageVector calls.shelfOf left-by gatheredBy pagedBy modelVector
   leaves = view-by l (words.listBook l c ks) counted ∙ crewed ∙ ap (setCrew c (gatheredBy (home l c))) paged-here ∙ ap left-by (sym at-home)
-
-  pub page-same : calls.paged (countsIn l) c (view l) ≡ pagedBy (view l .home c)
-  unfolding calls.paged calls.pageVector pagedBy modelVector
-  page-same = refl
 
   tells-same : listed (words.pageTold l c ks) ≡ calls.acted (countsIn l) (view l) (list c ks) .answer
   unfolding calls.acted calls.listing calls.paged calls.pageVector calls.shelfOf told-by pagedBy modelVector words.pageTold m

@@ -8,6 +8,7 @@ use Rattle.bridge.proofs.TickCall.{tick-bridge}
 use Rattle.bridge.proofs.TakeCall.{take-bridge}
 use Rattle.bridge.proofs.RefreshCall.{refresh-bridge}
 use Rattle.bridge.proofs.MoveCall.{move-bridge}
+use Rattle.bridge.proofs.ListCall.{list-bridge}
 
 pub the-bridge : Bridge
 the-bridge = record {
@@ -18,4 +19,5 @@ the-bridge = record {
   of-take = λ l F d s from r l′ t. take-bridge l F d s from _ l′ (t .answer) (t .book);
   of-refresh = λ l F d s r l′ t. refresh-bridge l F d s _ l′ (t .answer) (t .book);
   of-move = λ l F c d r l′ t. move-bridge l F c d _ l′ (t .answer) (t .book);
+  of-list = λ l F c ks r l′ t. list-bridge l F c ks _ l′ (t .answer) (t .book);
 }

@@ -18,6 +18,8 @@ use Rattle.events.specs.Answering.{lineFeed, eventSays, eventBook, readingSays,
 use Rattle.model.specs.System.{after}
 use Rattle.model.proofs.TheDemands as met
 use Rattle.model.proofs.Moves.{moves}
+use Rattle.model.proofs.Lists.{one-page}
+use Rattle.model.proofs.Links.{nothing-lost}
 use Rattle.model.proofs.Transfer as transfer
 use Rattle.bridge.specs.View.{toModel}
 use Rattle.bridge.specs.Demands.{bookOf, DeskAsModel, Demands}
@@ -54,5 +56,7 @@ the-demands l n homes done =
       desk = desk-as-model l n homes done;
       others = others;
       moves = transfer.moves-from follows (λ h c hc. move-nothing (bookOf n homes h) c) (moves (toModel n) homes (setup-model (setup-open l n homes done)));
+      page = transfer.page-from follows (sound-by (toModel n) _ _ (agrees-start l n homes done) .small .shelf) (one-page (toModel n) homes (setup-model (setup-open l n homes done)));
+      links = transfer.links-from follows (nothing-lost (toModel n) homes (setup-model (setup-open l n homes done)));
       dates = dates-exist n homes (others .besides);
     }

@@ -11,12 +11,13 @@ use Rattle.book.specs.Layout.{bookWords}
 use Rattle.fit.specs.Fit.{fit}
 use Rattle.register.specs.Promises as promises
 use Rattle.paper.specs.declared.answer.Payload.{Payload}
-use Rattle.paper.specs.Answers.{paper, paperRead, paperWrite}
+use Rattle.paper.specs.Answers.{paper, paperRead, paperWrite, paperList}
 use Rattle.paper.specs.declared.answer.Answer as plain
 use Rattle.paper.specs.declared.answer.ReadAnswer.{ReadAnswer}
 use Rattle.paper.specs.declared.answer.WriteAnswer.{WriteAnswer}
+use Rattle.paper.specs.declared.answer.ListAnswer.{ListAnswer}
 use Rattle.model.specs.Parts.{fresh}
-use Rattle.paper.specs.Calls.{Call, read, write, tick, take, refresh, move, Answer, done, answerBy}
+use Rattle.paper.specs.Calls.{Call, read, write, tick, take, refresh, move, list, Answer, done, answerBy}
 use Rattle.model.specs.Calls.{setup, step}
 use Rattle.bridge.specs.View.{toModel, countsIn, view}
 
@@ -49,3 +50,5 @@ pub record Bridge : Type 0 where
   pub of-refresh : (l : List ℕ) → fit l ≡ true → (d s : ℕ) (r : plain.Answer) (l′ : List ℕ) → promises.Refresh l d s r l′
       → Bridged l (refresh d s) (paper r) l′
   pub of-move : (l : List ℕ) → fit l ≡ true → (c d : ℕ) (r : plain.Answer) (l′ : List ℕ) → promises.Move l c d r l′ → Bridged l (move c d) (paper r) l′
+  pub of-list : (l : List ℕ) → fit l ≡ true → (c : ℕ) (ks : List ℕ) (r : ListAnswer) (l′ : List ℕ) → promises.Listing l c ks r l′
+      → Bridged l (list c ks) (paperList r) l′

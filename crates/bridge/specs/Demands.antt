@@ -26,6 +26,8 @@ use Rattle.model.specs.Calls.{refusal, step}
 use Rattle.model.specs.System.{after, ofModel}
 use Rattle.model.specs.Demands as demands
 use Rattle.model.specs.Moves as moves
+use Rattle.model.specs.Page as page
+use Rattle.model.specs.Links as links
 use Rattle.bridge.specs.View.{toModel, view}
 use Rattle.upkeep.specs.Requests.{Request, call, Called, numberAt, replyTo, bookAfter}
 use Rattle.bridge.specs.Systems.{ofBooks}
@@ -85,4 +87,7 @@ module _ (n : Counts) (homes : List ℕ) where
     pub desk : DeskAsModel
     pub others : demands.Demands (toModel n) (ofBooks n homes)
     pub moves : moves.Moves (toModel n) (ofBooks n homes)
+    -- lists: one page, one moment; and nothing is lost on a link
+    pub page : page.OnePage (toModel n) (ofBooks n homes)
+    pub links : links.NothingLost (toModel n) (ofBooks n homes)
     pub dates : DatesExist

@@ -3,14 +3,16 @@
 -- Assumes nothing.
 use Prim.Native.Nat.{ℕ}
 use mathlib.Core.Path.{_≡_}
-use mathlib.Core.List.{List, _∷_, _++_}
+use mathlib.Core.Logic.{_⊎_}
+use mathlib.Core.List.{List, _∷_, _++_, List·Memᴰ}
 use Rattle.book.specs.declared.parts.Counts.{Counts}
 use Rattle.book.specs.Layout.{home, crewVector, clock, stable, seen, linkOf, held, stored}
-use Rattle.register.specs.Calls.{setUp, readRecord, madeRecord}
+use Rattle.register.specs.Calls.{setUp, readRecord, madeRecord, pageBook}
 use Rattle.paper.specs.declared.answer.Payload.{Payload}
-use Rattle.paper.specs.Calls.{read, write}
+use Rattle.paper.specs.Calls.{read, write, list}
+use Rattle.model.specs.Rules.{copies}
 use Rattle.model.specs.System.{System, after}
-use Rattle.bridge.specs.View.{versionOf}
+use Rattle.bridge.specs.View.{versionOf, takenOn, untakenOn}
 use Rattle.upkeep.specs.Requests.{Request, setup, call, numberAt, replyTo, bookAfter}
 use Rattle.bridge.specs.Histories.{book, NoneSetUp, callsIn}
 
@@ -27,9 +29,12 @@ ofBooks n homes = record {
   stable = stable;
   seen = seen;
   held = λ l d s o. held l (linkOf s o d);
+  taken = λ l d s o. takenOn (n .depots) l (linkOf s o d);
+  coming = λ l d s o. copies (untakenOn (n .depots) l (linkOf s o d));
   store = λ l d k. versionOf (n .depots) (stored l d k);
   makes = λ l q c w. (p : Payload) × (q ≡ write c (w .bearing) p) × (w .version ≡ versionOf (n .depots) (madeRecord l c (w .bearing) p));
-  gets = λ l q c k v. (q ≡ read c k) × (v ≡ versionOf (n .depots) (readRecord l c k));
+  gets = λ l q c k v. ((q ≡ read c k) × (v ≡ versionOf (n .depots) (readRecord l c k)))
+      ⊎ ((ks : List ℕ) × (q ≡ list c ks) × List·Memᴰ k ks × (v ≡ versionOf (n .depots) (stored (pageBook l c) (home l c) k)));
 }
 
 -- requests to the book b, newest first, of which a setup was done: the last such setup, and the history of calls that starts there
