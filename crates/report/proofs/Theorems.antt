@@ -1,6 +1,7 @@
 -- What is said of the words that were stored is what is to be said of the lines; one answer fits each input, and it is never "bad length".
 -- Assumes nothing.
 use Prim.Native.Nat.{ℕ, zero, suc, _+_, _*_, _%_, _≤_, _<_}
+use native.Mathlib.Nat.{zero-add}
 use native.Mathlib.Omega.{arith}
 use mathlib.Core.Path.{_≡_, refl, sym, _∙_, ap, ap₂, subst, subst₂}
 use mathlib.Core.Logic.{⊎-elim}
@@ -66,20 +67,20 @@ module _ (words : List ℕ) (lines : ℕ) (ls : List (List ℕ)) (count : lines 
 
   told-few : {s : Said} → Reported words lines s → Told ls s
   told-few (so p) = absurd (omega arith)
-  told-few (not-so p (first a)) =
+  told-few (not-so p (first {i} a)) =
       not-so (λ l. omega arith)
-      (first
+      (first {i = i}
       (record {
         below = let b = a .below in omega arith;
-        here = kind-bad _ (sym (here _ (a .below)) ∙ a .here);
-        before = λ j l e. let b = a .below in a .before j l (here j (omega arith) ∙ bad-kind _ e);
+        here = kind-bad (getD ls i []) (sym (here i (a .below)) ∙ a .here);
+        before = λ j l e. let b = a .below in a .before j l (here j (omega arith) ∙ bad-kind (getD ls j []) e);
       }))
   told-few (not-so p (verdict.none f g)) =
-      not-so (λ l. omega arith) (verdict.none (λ j l e. f j (omega arith) (here j (omega arith) ∙ bad-kind _ e)) (audited g))
+      not-so (λ l. omega arith) (verdict.none (λ j l e. f j (omega arith) (here j (omega arith) ∙ bad-kind (getD ls j []) e)) (audited g))
 
-told-many : {words : List ℕ} {lines : ℕ} {ls : List (List ℕ)} {s : Said} → lines ≡ 257 → 256 < length ls → Reported words lines s → Told ls s
-told-many e l (so p) = so l
-told-many e l (not-so p r) = absurd (p (omega arith))
+told-many : (words : List ℕ) (lines : ℕ) (ls : List (List ℕ)) {s : Said} → lines ≡ 257 → 256 < length ls → Reported words lines s → Told ls s
+told-many words lines ls e l (so p) = so l
+told-many words lines ls e l (not-so p r) = absurd (p (omega arith))
 
 -- ---- the whole input
 
@@ -87,8 +88,8 @@ told-many e l (not-so p r) = absurd (p (omega arith))
 pub reported-told : (t : List ℕ) {s : Said} → Reported (finished (through start t) .words) (finished (through start t) .lines) s → Told (linesOf t) s
 reported-told t r =
     ⊎-elim
-    (λ (l : length (linesOf t) ≤ 256). let few = read-few t l in told-few _ _ _ (few .0) l (few .1) r)
-    (λ (l : 256 < length (linesOf t)). told-many (read-many t l) l r)
+    (λ (l : length (linesOf t) ≤ 256). let few = read-few t l in told-few _ _ (linesOf t) (few .0) l (few .1) r)
+    (λ (l : 256 < length (linesOf t)). told-many _ _ (linesOf t) (read-many t l) l r)
     (le-or-lt (length (linesOf t)) 256)
 
 -- so the answer's line is the output for the bytes that were read
@@ -107,7 +108,7 @@ concluded {words} {line} {words′} {o} {s = s} seen e r w room =
         told = reported-told (seen .bytes) (subst₂ (λ (x : List ℕ) (y : ℕ). Reported x y s) (ap (λ (q : Read). q .words) end) (ap (λ (q : Read). q .lines) end) r);
         bytes =
             ap₂ (λ (n : ℕ) (l : List ℕ). take n l) (w .after) (wrote-bytes (record { room = omega arith }) w)
-            ∙ take-at (spoken s) _ (0 + length (spoken s)) refl;
+            ∙ take-at (spoken s) _ (0 + length (spoken s)) (sym (zero-add (length (spoken s))));
       };
     }
 
@@ -116,11 +117,11 @@ concluded {words} {line} {words′} {o} {s = s} seen e r w room =
 audited-one : {h : List ℕ} → One (Audited h)
 audited-one f g (found p) (found q) = ap Found (verdict-unique p q)
 
-pub told-unique : {ls : List (List ℕ)} {s s′ : Said} → Told ls s → Told ls s′ → s ≡ s′
-told-unique p q = if-one (names-one audited-one) _ _ p q
+pub told-unique : (ls : List (List ℕ)) {s s′ : Said} → Told ls s → Told ls s′ → s ≡ s′
+told-unique ls p q = if-one (names-one audited-one) _ _ p q
 
 pub output-unique : {t o o′ : List ℕ} → Output t o → Output t o′ → o ≡ o′
-output-unique p q = p .bytes ∙ ap spoken (told-unique (p .told) (q .told)) ∙ sym (q .bytes)
+output-unique {t} p q = p .bytes ∙ ap spoken (told-unique (linesOf t) (p .told) (q .told)) ∙ sym (q .bytes)
 
 -- ---- never "bad length"
 
@@ -140,7 +141,7 @@ verdict-whole w (not-so p (not-so q (verdict.none a (verdict.none b (verdict.non
 audited-whole : {h : List ℕ} {s : Said} → length h % 11 ≡ 0 → Audited h s → s ≡ Found BadLength → ⊥
 audited-whole w (found {f} p) e = let same : f ≡ BadLength = cc in verdict-whole w p same
 
-pub never-bad-length : {ls : List (List ℕ)} {s : Said} → Told ls s → s ≡ Found BadLength → ⊥
-never-bad-length (so p) e = let z : _≡_ {A = ℕ} 0 1 = cc in omega arith
-never-bad-length (not-so p (first a)) e = let z : _≡_ {A = ℕ} 0 1 = cc in omega arith
-never-bad-length {ls} (not-so p (verdict.none a b)) e = let l = words-length ls in audited-whole (omega arith) b e
+pub never-bad-length : (ls : List (List ℕ)) {s : Said} → Told ls s → s ≡ Found BadLength → ⊥
+never-bad-length ls (so p) e = let z : _≡_ {A = ℕ} 0 1 = cc in omega arith
+never-bad-length ls (not-so p (first a)) e = let z : _≡_ {A = ℕ} 0 1 = cc in omega arith
+never-bad-length ls (not-so p (verdict.none a b)) e = let l = words-length ls in audited-whole (omega arith) b e
