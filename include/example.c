@@ -108,14 +108,16 @@ int main(void) {
     falls_on(2, 3, 31, 8490);
     expect(depot_is_date(2023, 2, 29), 0, "29 February 2023");
     expect(depot_day_number(2023, 2, 29, out, DEPOT_NUMBER_WORDS), DEPOT_NO_SUCH_DATE, "its day number");
-    expect(depot_date_of(DEPOT_LAST_DAY + 1, NULL, 0), DEPOT_TOO_LATE, "1 January 2400");
+    expect(depot_date_of(DEPOT_LAST_DAY + 1, out, DEPOT_DATE_WORDS), DEPOT_TOO_LATE, "1 January 2400");
 
     puts("What is wrong is refused by number, and changes nothing.");
     expect(depot_tick(book, DEPOT_BOOK_WORDS, 7, 0), DEPOT_BAD_DEPOT, "bad depot");
     expect(depot_write(book, DEPOT_BOOK_WORDS, MILL_CREW, BEARING, DEPOT_LAST_DAY + 1, out, DEPOT_WRITE_WORDS), DEPOT_BAD_DATE,
            "a day beyond the calendar");
-    expect(depot_read(book, DEPOT_BOOK_WORDS - 1, MILL_CREW, BEARING, NULL, 0), DEPOT_BAD_BOOK, "short book");
-    expect(depot_read(NULL, 0, MILL_CREW, BEARING, NULL, 0), DEPOT_BAD_BOOK, "no book");
+    expect(depot_read(book, DEPOT_BOOK_WORDS - 1, MILL_CREW, BEARING, out, DEPOT_READ_WORDS), DEPOT_BAD_BOOK, "short book");
+    expect(depot_read(NULL, 0, MILL_CREW, BEARING, out, DEPOT_READ_WORDS), DEPOT_BAD_BOOK, "no book");
+    expect(depot_read(book, DEPOT_BOOK_WORDS, MILL_CREW, BEARING, NULL, 0), DEPOT_NO_ROOM, "no room for the answer");
+    expect(depot_date_of(0, out, DEPOT_DATE_WORDS - 1), DEPOT_NO_ROOM, "no room for a date");
     expect(depot_is_fit(book, DEPOT_BOOK_WORDS), 1, "fit");
     puts("example: all as told, by the depot register " DEPOT_REGISTER_VERSION);
     return 0;

@@ -1,6 +1,4 @@
 // The worked cases (a) to (i) of the paper's "Entries on both sides", and those of later requests, each run and compared. A script has lines of the desk, each with its answer after it.
-mod script;
-
 use book::layout::BOOK_WORDS;
 use book::layout::clock_at;
 use book::layout::crew_at;
@@ -10,6 +8,8 @@ use book::numbers::Depot;
 use book::numbers::Shelf;
 use book::parts::set_clock;
 use libc::STDOUT_FILENO;
+use script::is_word;
+use script::repeated;
 use script::runs;
 use whole::is_fit;
 ghost use mathlib.Core.Path.{_≡_};
@@ -17,13 +17,6 @@ ghost use Prim.Native.Nat.{_≤_};
 ghost use lib.ListN.{length};
 ghost use Rattle.book.specs.Layout.{bookWords};
 ghost use Rattle.reply.specs.Printed.{answerRoom};
-
-fn is_word(book: &[u32], at: usize, value: u32) -> bool {
-    if at < book.len() {
-        return book[at] == value;
-    }
-    false
-}
 
 // The clock of depot 0's shelf 0.
 fn is_clock(book: &[u32], value: u32) -> bool {
@@ -139,19 +132,6 @@ fn case_f(book: &mut [u32], out: &mut [u8]) -> bool
     written && first && hidden && second && read
 }
 
-// The same script again and again.
-fn repeated(book: &mut [u32], out: &mut [u8], script: &[u8], times: usize) -> bool
-    requires { ⌜ answerRoom ≤ length (now out) ⌝ }
-{
-    let mut good = true;
-    let mut i = 0;
-    while i < times {
-        good = runs(book, out, script) && good;
-        i += 1;
-    }
-    good
-}
-
 // (g) 16 ticks pass, the 17th is LINK FULL, clock still 16. One take, and the tick passes, clock 17.
 fn case_g(book: &mut [u32], out: &mut [u8]) -> bool
     requires { ⌜ answerRoom ≤ length (now out) ⌝ }
@@ -242,6 +222,17 @@ fn case_l(book: &mut [u32], out: &mut [u8]) -> bool
     fresh && written && taken && read
 }
 
+// (?) what must not pass: a wrong number, an answer that is cut, one that goes on, and a wrong word. Each is told as different.
+fn wrong_answers(book: &mut [u32], out: &mut [u8]) -> bool
+    requires { ⌜ answerRoom ≤ length (now out) ⌝ }
+{
+    let number = runs(book, out, b"S 1 1 1 1 0\n1\n");
+    let cut = runs(book, out, b"R 0 0\n0 -\n");
+    let longer = runs(book, out, b"R 0 0\n0 - 0 0\n");
+    let word = is_clock(book, 1);
+    number || cut || longer || word
+}
+
 // Says how a case went.
 fn tell(letter: u8, good: bool) {
     let name = [b'(', letter, b')', b' '];
@@ -289,4 +280,5 @@ fn main() {
     from_listing(&mut book, &mut out);
     from_setup(&mut book, &mut out);
     from_requests(&mut book, &mut out);
+    tell(b'?', wrong_answers(&mut book, &mut out));
 }

@@ -21,7 +21,7 @@ use Rattle.register.specs.Calls.{readRecord}
 use Rattle.register.proofs.HomeLaws.{told-entries}
 use Rattle.upkeep.specs.Requests.{Request, setup, call, numberAt, doneAnswer, replyTo}
 use Rattle.calls.specs.Performed.{requestOf}
-use Rattle.line.specs.Grammar.{Says}
+use Rattle.line.specs.Grammar.{InGrammar}
 use Rattle.line.specs.Reading.{Reading, bad, good, reading, lineOf}
 use Rattle.line.specs.Printing.{Wrote}
 use Rattle.line.specs.declared.reader.Said.the-variants.{BadLine, Names}
@@ -54,8 +54,8 @@ module _ {t : Line} (s : List ℕ) (p : t ≡ lineOf (reading s)) where
   told-bad h = bad-only (reading s) (sym (ap (λ (x : Line). x .said) p) ∙ h)
 
   -- one that names an event says it with the numbers that count
-  pub told-event : (e : Event) → t .said ≡ Names e → Says s e (list.take (t .count) (t .numbers))
-  told-event e h = subst (λ (x : Line). x .said ≡ Names e → Says s e (list.take (x .count) (x .numbers))) (sym p) (answer-says s e) h
+  pub told-event : (e : Event) → t .said ≡ Names e → InGrammar s e (list.take (t .count) (t .numbers))
+  told-event e h = subst (λ (x : Line). x .said ≡ Names e → InGrammar s e (list.take (x .count) (x .numbers))) (sym p) (answer-says s e) h
 
   pub told-count : t .count ≤ 20
   told-count = subst (λ (x : Line). x .count ≤ 20) (sym p) (most-numbers s (reading s) refl)

@@ -1,72 +1,31 @@
 // The register as C calls it: each function makes one call and gives the number of its answer. include/depot_register.h declares them.
-pub mod dates;
-pub mod out;
+pub mod days;
 
-use crate::out::fill;
 use book::parts::wide;
-use calls::perform::perform;
 use events::answer::answer_line;
 use order::record::MOST_DEPOTS;
 use order::record::exceeds;
-use paper::answer::Outcome;
-use paper::answer::Reply;
-use paper::number::number_in;
 use paper::request::Request;
 use reply::ANSWER_ROOM;
+use telling::READ_WORDS;
+use telling::WRITE_WORDS;
+use telling::ask;
+use telling::ask_telling;
 use whole::is_fit;
 ghost use mathlib.Core.Path.{_≡_};
-ghost use mathlib.Core.List.{[]};
 ghost use lib.Dec.{leb};
 ghost use lib.ListN.{length};
 ghost use lib.Seq.{sets};
 ghost use Rattle.loops.specs.Loops.{pick};
 ghost use Rattle.fit.specs.Fit.{fit};
 ghost use Rattle.paper.specs.Calls.{read, write, tick, take, refresh};
-ghost use Rattle.paper.specs.Answers.{onPaper, Holds};
 ghost use Rattle.upkeep.specs.Requests.{setup, call, numberAt, replyTo, bookAfter};
-ghost use Rattle.calls.specs.Performed.{asked};
+ghost use Rattle.room.specs.Room.{noRoom, inRoom, filled};
+ghost use Rattle.telling.specs.Told.{readWords, writeWords, wordsOf};
 ghost use Rattle.reply.specs.Printed.{answerRoom};
 ghost use Rattle.events.specs.Answering as events;
 ghost use Rattle.events.specs.Answering.{answerTo};
-ghost use Rattle.export.specs.Numbers.{filled, wordsOf, greaterNumber};
-
-// A request is performed; the number of its reply comes back.
-fn ask(book: &mut [u32], request: Request, homes: &[u32]) -> u32
-    ensures { λ r. ⌜ r ≡ numberAt (now (book .entry)) (asked request (now (homes .entry))) ⌝ }
-    ensures { λ r. ⌜ now (book .exit) ≡ bookAfter (now (book .entry)) (asked request (now (homes .entry))) ⌝ }
-{
-    let reply = perform(book, request, homes);
-    number_in(reply)
-}
-
-// What a reply tells stands in `out`.
-fn tell(out: &mut [u32], reply: Reply)
-    requires { ⌜ Holds (onPaper reply) (reply .vector) (reply .depots) ⌝ }
-    ensures { λ r. ⌜ now (out .exit) ≡ filled (wordsOf (onPaper reply)) (now (out .entry)) ⌝ }
-{
-    let outcome = reply.outcome;
-    let v = reply.vector;
-    match outcome {
-        Outcome::Value(value) => fill(out, &[1, value, v[0], v[1], v[2], v[3]]),
-        Outcome::Unwritten => fill(out, &[0, 0, v[0], v[1], v[2], v[3]]),
-        Outcome::Current(stamp) => fill(out, &[stamp, 1]),
-        Outcome::Superseded(stamp) => fill(out, &[stamp, 0]),
-        Outcome::Done => {}
-        Outcome::Refused(_) => {}
-    }
-}
-
-// A read or a write is performed; what the reply tells stands in `out`, and its number comes back.
-fn ask_telling(book: &mut [u32], request: Request, out: &mut [u32]) -> u32
-    ensures { λ r. ⌜ r ≡ numberAt (now (book .entry)) (asked request []) ⌝ }
-    ensures { λ r. ⌜ now (book .exit) ≡ bookAfter (now (book .entry)) (asked request []) ⌝ }
-    ensures { λ r. ⌜ now (out .exit) ≡ filled (wordsOf (replyTo (now (book .entry)) (asked request []))) (now (out .entry)) ⌝ }
-{
-    let homes = [0u32; 0];
-    let reply = perform(book, request, &homes);
-    tell(out, reply);
-    number_in(reply)
-}
+ghost use Rattle.export.specs.Numbers.{greaterNumber};
 
 #[no_mangle]
 pub extern "C" fn depot_setup(
@@ -118,12 +77,13 @@ pub extern "C" fn depot_refresh(book: &mut [u32], depot: u32, shelf: u32) -> u32
 
 #[no_mangle]
 pub extern "C" fn depot_read(book: &mut [u32], crew: u32, bearing: u32, out: &mut [u32]) -> u32
-    ensures { λ r. ⌜ r ≡ numberAt (now (book .entry)) (call (read crew bearing)) ⌝ }
-    ensures { λ r. ⌜ now (book .exit) ≡ bookAfter (now (book .entry)) (call (read crew bearing)) ⌝ }
-    ensures { λ r. ⌜ now (out .exit) ≡ filled (wordsOf (replyTo (now (book .entry)) (call (read crew bearing)))) (now (out .entry)) ⌝ }
+    ensures { λ r. ⌜ r ≡ inRoom readWords (now (out .entry)) (numberAt (now (book .entry)) (call (read crew bearing))) noRoom ⌝ }
+    ensures { λ r. ⌜ now (book .exit) ≡ inRoom readWords (now (out .entry)) (bookAfter (now (book .entry)) (call (read crew bearing))) (now (book .entry)) ⌝ }
+    ensures { λ r. ⌜ now (out .exit)
+        ≡ inRoom readWords (now (out .entry)) (filled (wordsOf (replyTo (now (book .entry)) (call (read crew bearing)))) (now (out .entry))) (now (out .entry)) ⌝ }
 {
     let request = Request::Read { crew, bearing };
-    ask_telling(book, request, out)
+    ask_telling(book, request, READ_WORDS, out)
 }
 
 #[no_mangle]
@@ -134,16 +94,17 @@ pub extern "C" fn depot_write(
     value: u32,
     out: &mut [u32],
 ) -> u32
-    ensures { λ r. ⌜ r ≡ numberAt (now (book .entry)) (call (write crew bearing value)) ⌝ }
-    ensures { λ r. ⌜ now (book .exit) ≡ bookAfter (now (book .entry)) (call (write crew bearing value)) ⌝ }
-    ensures { λ r. ⌜ now (out .exit) ≡ filled (wordsOf (replyTo (now (book .entry)) (call (write crew bearing value)))) (now (out .entry)) ⌝ }
+    ensures { λ r. ⌜ r ≡ inRoom writeWords (now (out .entry)) (numberAt (now (book .entry)) (call (write crew bearing value))) noRoom ⌝ }
+    ensures { λ r. ⌜ now (book .exit) ≡ inRoom writeWords (now (out .entry)) (bookAfter (now (book .entry)) (call (write crew bearing value))) (now (book .entry)) ⌝ }
+    ensures { λ r. ⌜ now (out .exit)
+        ≡ inRoom writeWords (now (out .entry)) (filled (wordsOf (replyTo (now (book .entry)) (call (write crew bearing value)))) (now (out .entry))) (now (out .entry)) ⌝ }
 {
     let request = Request::Write {
         crew,
         bearing,
         value,
     };
-    ask_telling(book, request, out)
+    ask_telling(book, request, WRITE_WORDS, out)
 }
 
 #[no_mangle]

@@ -2,13 +2,13 @@
 -- Assumes nothing.
 use Prim.Native.Nat.{ℕ, suc, _+_, _*_, _/_, _%_, _^_, _≤_, _<_}
 use native.Mathlib.Numerals.{add-one}
-use native.Mathlib.Nat.{add-zero}
+use native.Mathlib.Nat.{add-zero, le-refl}
 use native.Mathlib.Omega.{arith}
 use mathlib.Core.Path.{_≡_, refl, sym, _∙_, ap, ap₂}
 use mathlib.Core.List.{List, [], _∷_, _++_, append-assoc, append-nil}
 use mathlib.Core.Bool.{Bool}
 use lib.ListN.{length, getD, take, drop, set, length-append, take-append-drop}
-use lib.Seq.{sets, length-sets, take-suc, take-take}
+use lib.Seq.{sets, sets-eq, length-sets, take-suc, take-take, take-all, take-append-le}
 use Rattle.line.specs.Number.{decimal}
 use Rattle.line.specs.Grammar.{spaced}
 use Rattle.line.specs.Answers.{valueAnswer, unwrittenAnswer, standing, stampAnswer}
@@ -156,3 +156,13 @@ stamp-answer-length stamp current =
     let e = length-append (decimal stamp) (32 ∷ (standing current ∷ [])) in
     let h = decimal-length stamp in
     omega arith
+
+-- what was written at the start of an output is its beginning
+pub wrote-start : {o o′ xs : List ℕ} {next : ℕ} → Wrote o 0 xs o′ next → next ≤ length o′ → take next o′ ≡ xs
+wrote-start {o} {o′} {xs} {next} w h =
+    let same = wrote-length w in
+    let whole : o′ ≡ xs ++ drop (0 + length xs) o = w .stored ∙ sets-eq xs o 0 (omega (arith, w .after)) in
+    let end : next ≡ length xs = omega (arith, w .after) in
+    ap₂ (λ (n : ℕ) (x : List ℕ). take n x) end whole
+    ∙ take-append-le (length xs) xs (drop (0 + length xs) o) (le-refl _)
+    ∙ take-all (length xs) xs (le-refl _)

@@ -53,18 +53,18 @@ spaced [] = []
 spaced (n ∷ ns) = spaceByte ∷ (decimal n ++ spaced ns)
 
 -- the bytes of the line for the event e and the numbers ns
-unfoldable pub printed : Event → List ℕ → List ℕ
-printed e ns = letter e ∷ spaced ns
+unfoldable pub lineFor : Event → List ℕ → List ℕ
+lineFor e ns = letter e ∷ spaced ns
 
 -- each number is at most 4,294,967,295
-unfoldable pub inRange : List ℕ → Bool
-inRange [] = true
-inRange (n ∷ ns) = leb n mostNumber && inRange ns
+unfoldable pub wordSized : List ℕ → Bool
+wordSized [] = true
+wordSized (n ∷ ns) = leb n mostNumber && wordSized ns
 
 -- the line s is in the grammar and says the event e with the numbers ns
-pub record Says (s : List ℕ) (e : Event) (ns : List ℕ) : Type 0 where
-  pub bytes : s ≡ printed e ns
+pub record InGrammar (s : List ℕ) (e : Event) (ns : List ℕ) : Type 0 where
+  pub bytes : s ≡ lineFor e ns
   pub enough : least e ≤ length ns
   pub not-over : length ns ≤ most e
-  pub in-range : inRange ns ≡ true
+  pub in-range : wordSized ns ≡ true
   pub short : length s ≤ mostBytes

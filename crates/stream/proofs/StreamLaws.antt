@@ -2,13 +2,12 @@
 -- Assumes nothing.
 use Prim.Native.Nat.{ℕ, _+_, _*_, _≤_, _<_}
 use native.Mathlib.Numerals.{add-one}
-use native.Mathlib.Nat.{le-refl}
 use native.Mathlib.Omega.{arith}
 use mathlib.Core.Path.{_≡_, refl, sym, _∙_, ap, ap₂, subst}
 use mathlib.Core.Logic.{⊎-elim}
 use mathlib.Core.List.{List, [], _∷_, _++_, append-nil, append-assoc}
 use lib.ListN.{length, getD, take, drop, set, length-append, length-set, replicate}
-use lib.Seq.{take-suc, take-set-le, getD-set-same, length-take-le, take-all, sets, sets-eq, take-append-le}
+use lib.Seq.{take-suc, take-set-le, getD-set-same, length-take-le, take-all}
 use borrow.Author.Tests.{eq-eqb, ne-eqb, lt-ltb, le-ltb}
 use Rattle.loops.proofs.BoolLaws.{eq-or-ne, pick-true, pick-false}
 use Rattle.line.specs.Printing.{Wrote}
@@ -207,16 +206,6 @@ pub piece-some : (l p c : List ℕ) → (length c ≡ 0 → ⊥)
 unfolding bookPiece linePiece saysPiece
 piece-some l p [] h = absurd (h refl)
 piece-some l p (b ∷ c) h = (refl, refl, refl)
-
--- what was written at the start of an output is its beginning
-pub wrote-start : {o o′ xs : List ℕ} {next : ℕ} → Wrote o 0 xs o′ next → next ≤ length o′ → take next o′ ≡ xs
-wrote-start {o} {o′} {xs} {next} w h =
-    let same = wrote-length w in
-    let whole : o′ ≡ xs ++ drop (0 + length xs) o = w .stored ∙ sets-eq xs o 0 (omega (arith, w .after)) in
-    let end : next ≡ length xs = omega (arith, w .after) in
-    ap₂ (λ (n : ℕ) (x : List ℕ). take n x) end whole
-    ∙ take-append-le (length xs) xs (drop (0 + length xs) o) (le-refl _)
-    ∙ take-all (length xs) xs (le-refl _)
 
 -- ---- how much is said at most
 

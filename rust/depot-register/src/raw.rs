@@ -1,7 +1,8 @@
 //! The static library's functions as they are, on slices and numbers. `include/depot_register.h` says what each does.
 //!
 //! They are safe for all slices and all numbers: the library reads and writes only inside the slices it is given, and
-//! answers a wrong length with a number. The rest of this crate is built on them, without `unsafe`.
+//! answers a wrong length with a number: 100, NO ROOM, where `out` is too short for the answer, and nothing is done then. The
+//! rest of this crate is built on them, without `unsafe`; its buffers always have room, so none of its calls says NO ROOM.
 
 mod library {
     extern "C" {

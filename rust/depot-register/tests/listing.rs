@@ -95,6 +95,13 @@ fn raw_calls_answer_wrong_lengths() {
     assert_eq!(raw::setup(&mut [0; 100], 1, 1, 1, 1, &[0]), 1);
     assert_eq!(raw::read(&mut [], 0, 0, &mut out), 1);
     assert_eq!(out, [7; 6], "a refusal leaves the answer's room alone");
+    let mut book = [0; 16_384];
+    assert_eq!(raw::setup(&mut book, 1, 1, 1, 1, &[0]), 0);
+    let fresh = book;
+    assert_eq!(raw::read(&mut book, 0, 0, &mut out[..5]), 100, "NO ROOM for a read's answer");
+    assert_eq!(raw::write(&mut book, 0, 0, 7, &mut out[..1]), 100, "NO ROOM for a write's answer");
+    assert_eq!(raw::read(&mut [], 0, 0, &mut []), 100, "NO ROOM comes before BAD BOOK");
+    assert_eq!((book, out), (fresh, [7; 6]), "without room nothing is done");
     assert_eq!(raw::is_fit(&[]), 0);
     assert_eq!(raw::greater(&[], &[], 2), 0);
     assert_eq!(raw::line(&mut [0; 16_384], b"R 0 0", &mut [0; 63]), 0, "too little room for a line's answer");

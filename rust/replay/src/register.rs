@@ -16,6 +16,18 @@ pub trait Register {
 /// The room that every answer line has.
 pub const ANSWER_BYTES: usize = 64;
 
+/// NO ROOM: `out` is too short for the answer.
+pub const NO_ROOM: u32 = 100;
+
+/// The number of a call whose answer takes so many words of `out`: NO ROOM where they are not there, and the call is not made.
+pub fn in_room(words: usize, out: &mut [u32], call: impl FnOnce(&mut [u32]) -> u32) -> u32 {
+    if out.len() < words {
+        NO_ROOM
+    } else {
+        call(out)
+    }
+}
+
 /// The straight version.
 pub struct Straight;
 
@@ -27,21 +39,17 @@ pub fn number(answer: Result<(), straight::Refusal>) -> u32 {
 /// The number of a read's answer, and the rest of it in `out`.
 pub fn read_answer(answer: Result<straight::Reading, straight::Refusal>, out: &mut [u32]) -> u32 {
     number(answer.map(|reading| {
-        if out.len() >= 6 {
-            out[0] = reading.value.is_some() as u32;
-            out[1] = reading.value.unwrap_or(0);
-            out[2..6].copy_from_slice(&reading.vector);
-        }
+        out[0] = reading.value.is_some() as u32;
+        out[1] = reading.value.unwrap_or(0);
+        out[2..6].copy_from_slice(&reading.vector);
     }))
 }
 
 /// The number of a write's answer, and the rest of it in `out`.
 pub fn write_answer(answer: Result<straight::Written, straight::Refusal>, out: &mut [u32]) -> u32 {
     number(answer.map(|written| {
-        if out.len() >= 2 {
-            out[0] = written.stamp;
-            out[1] = written.current as u32;
-        }
+        out[0] = written.stamp;
+        out[1] = written.current as u32;
     }))
 }
 
@@ -52,11 +60,11 @@ impl Register for Straight {
     }
 
     fn read(&self, book: &mut [u32], crew: u32, bearing: u32, out: &mut [u32]) -> u32 {
-        read_answer(straight::read(book, crew, bearing), out)
+        in_room(6, out, |out| read_answer(straight::read(book, crew, bearing), out))
     }
 
     fn write(&self, book: &mut [u32], crew: u32, bearing: u32, value: u32, out: &mut [u32]) -> u32 {
-        write_answer(straight::write(book, crew, bearing, value), out)
+        in_room(2, out, |out| write_answer(straight::write(book, crew, bearing, value), out))
     }
 
     fn tick(&self, book: &mut [u32], depot: u32, shelf: u32) -> u32 {

@@ -124,7 +124,6 @@ impl Tally {
 
     /// Counts a step, by the buffer before and after it.
     pub fn count(&mut self, step: &Step, before: &[u32], after: &[u32], outcome: &Outcome) {
-        let done = self.answer(step, outcome);
         let called = !matches!(step.event, Event::Lay(_) | Event::Put { .. } | Event::Greater { .. });
         self.mark_if(called && step.words != WORDS, Mark::WrongLength);
         let least = match step.event {
@@ -133,7 +132,12 @@ impl Tally {
             Event::Write { .. } => 2,
             _ => 0,
         };
-        self.mark_if(step.room < least, Mark::LittleRoom);
+        if step.room < least {
+            self.mark(Mark::LittleRoom);
+            self.events += 1;
+            return;
+        }
+        let done = self.answer(step, outcome);
         if done && called && step.words == WORDS {
             self.book(&before[..WORDS]);
         }

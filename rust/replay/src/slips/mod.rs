@@ -9,7 +9,7 @@ mod look;
 use std::fmt;
 
 use crate::parts::{looks, means, Call, Part, CALLS, PARTS};
-use crate::register::{number, read_answer, write_answer, Register};
+use crate::register::{in_room, number, read_answer, write_answer, Register};
 pub use lines::desk;
 
 macro_rules! slips {
@@ -278,11 +278,11 @@ impl Register for Slipped {
     }
 
     fn read(&self, book: &mut [u32], crew: u32, bearing: u32, out: &mut [u32]) -> u32 {
-        read_answer(self.call_read(book, crew, bearing), out)
+        in_room(6, out, |out| read_answer(self.call_read(book, crew, bearing), out))
     }
 
     fn write(&self, book: &mut [u32], crew: u32, bearing: u32, value: u32, out: &mut [u32]) -> u32 {
-        write_answer(self.call_write(book, crew, bearing, value), out)
+        in_room(2, out, |out| write_answer(self.call_write(book, crew, bearing, value), out))
     }
 
     fn tick(&self, book: &mut [u32], depot: u32, shelf: u32) -> u32 {
