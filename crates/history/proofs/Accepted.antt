@@ -14,8 +14,8 @@ use lib.Seq.{sets, sets-eq, take-at, drop-cons, getD-append-add}
 use borrow.Author.Tests.{eq-eqb, eqb-true, eqb-false, ne-eqb, leb-true}
 use Rattle.loops.specs.Loops.{pick}
 use Rattle.loops.proofs.BoolLaws.{decided, failed, both-ways, and-left, and-right, and-intro, not-failed, not-passed, eq-or-ne, le-or-lt, pick-true, pick-false}
-use Rattle.line.specs.Number.{decimal, isDigit, run, mostNumber}
-use Rattle.line.specs.Grammar.{spaced, inRange}
+use Rattle.line.specs.Number.{decimal, isDigit, digitRun, mostNumber}
+use Rattle.line.specs.Grammar.{spaced, wordSized}
 use Rattle.line.specs.Reading.{numbersIn}
 use Rattle.line.proofs.GrammarLaws.{Prints, numbers-printed, numbers-read}
 use Rattle.line.proofs.PrintLaws.{spaced-length}
@@ -40,26 +40,26 @@ unfolding plain
 plain-append [] m p q = q
 plain-append (b ∷ l) m p q = and-intro (and-left (not (eqb b 45)) _ p) (plain-append l m (and-right (not (eqb b 45)) _ p) q)
 
-plain-digits : (l : List ℕ) → run l ≡ length l → plain l ≡ true
-unfolding plain run isDigit
+plain-digits : (l : List ℕ) → digitRun l ≡ length l → plain l ≡ true
+unfolding plain digitRun isDigit
 plain-digits [] h = refl
 plain-digits (b ∷ l) h =
     ⊎-elim
     (λ (d : leb 48 b && leb b 57 ≡ true).
     let low = leb-true 48 b (and-left (leb 48 b) _ d) in
-    let rest : suc (run l) ≡ suc (length l) = sym (pick-true _ _ d) ∙ h in
+    let rest : suc (digitRun l) ≡ suc (length l) = sym (pick-true _ _ d) ∙ h in
     and-intro (not-failed (ne-eqb b 45 (λ e. omega arith))) (plain-digits l (omega arith)))
     (λ (d : leb 48 b && leb b 57 ≡ false). let none : 0 ≡ suc (length l) = sym (pick-false _ _ d) ∙ h in absurd (omega arith))
     (decided (leb 48 b && leb b 57))
 
-plain-spaced : (ns : List ℕ) → inRange ns ≡ true → plain (spaced ns) ≡ true
-unfolding plain spaced inRange
+plain-spaced : (ns : List ℕ) → wordSized ns ≡ true → plain (spaced ns) ≡ true
+unfolding plain spaced wordSized
 plain-spaced [] r = refl
 plain-spaced (n ∷ ns) r =
     plain-append (decimal n) (spaced ns) (plain-digits (decimal n) (decimal-spells n (leb-true n mostNumber (and-left (leb n mostNumber) _ r)) .all-digits))
     (plain-spaced ns (and-right (leb n mostNumber) _ r))
 
-plain-line : (ns : List ℕ) → inRange ns ≡ true → plain (82 ∷ spaced ns) ≡ true
+plain-line : (ns : List ℕ) → wordSized ns ≡ true → plain (82 ∷ spaced ns) ≡ true
 unfolding plain
 plain-line ns r = plain-spaced ns r
 
@@ -84,7 +84,7 @@ record Kinded (kind count : ℕ) (l ws : List ℕ) : Type 0 where
   numbers : List ℕ
   counted : length numbers ≡ count
   bytes : l ≡ spaced numbers
-  in-range : inRange numbers ≡ true
+  in-range : wordSized numbers ≡ true
   words : sets (replicate 11 0) 0 (kind ∷ numbers) ≡ ws
 
 never : {ws : List ℕ} → none ≡ some ws → ⊥
@@ -115,7 +115,7 @@ module _ (c k : ℕ) where
   unfolding line
   long = length-append head (32 ∷ 45 ∷ [])
 
-  unwritten-read : inRange (c ∷ k ∷ []) ≡ true → readIn line ≡ some (unwritten c k)
+  unwritten-read : wordSized (c ∷ k ∷ []) ≡ true → readIn line ≡ some (unwritten c k)
   unfolding head line kinded pick
   unwritten-read r =
       let two : length line - 2 ≡ length head + 0 = let e = long in omega arith in
@@ -147,7 +147,7 @@ says-read (an-unwritten {c} {k} r) = unfold line head in entry-read (line c k) (
 said-as : {s s′ ws ws′ : List ℕ} → s ≡ s′ → ws ≡ ws′ → Says s ws → Says s′ ws′
 said-as p q h = rw (← p, ← q) h
 
-tens : (kind b : ℕ) (l ws : List ℕ) → Kinded kind 10 l ws → ((ns : List ℕ) → length ns ≡ 10 → inRange ns ≡ true → Says (b ∷ spaced ns) (kind ∷ ns)) → Says (b ∷ l) ws
+tens : (kind b : ℕ) (l ws : List ℕ) → Kinded kind 10 l ws → ((ns : List ℕ) → length ns ≡ 10 → wordSized ns ≡ true → Says (b ∷ spaced ns) (kind ∷ ns)) → Says (b ∷ l) ws
 tens kind b l ws p f =
     said-as (ap (λ (x : List ℕ). b ∷ x) (sym (p .bytes))) (sym (whole-words kind (p .numbers) (p .counted)) ∙ p .words) (f (p .numbers) (p .counted) (p .in-range))
 
@@ -185,7 +185,7 @@ dash-says l ws t h = pairs (p .numbers) (p .counted) (p .bytes) (p .in-range) (p
         kinded-parts 1 2 (take (length l - 2) l) ws (numbersIn 2 (take (length l - 2) l)) refl
         (sym (pick-true _ _ t ∙ ap (λ (i : ℕ). kinded 1 2 (numbersIn 2 (drop 1 (take i (82 ∷ l))))) here) ∙ h)
 
-    pairs : (ns : List ℕ) → length ns ≡ 2 → take (length l - 2) l ≡ spaced ns → inRange ns ≡ true → sets (replicate 11 0) 0 (1 ∷ ns) ≡ ws → Says (82 ∷ l) ws
+    pairs : (ns : List ℕ) → length ns ≡ 2 → take (length l - 2) l ≡ spaced ns → wordSized ns ≡ true → sets (replicate 11 0) 0 (1 ∷ ns) ≡ ws → Says (82 ∷ l) ws
     pairs [] e b r w = absurd (omega arith)
     pairs (c ∷ []) e b r w = absurd (omega arith)
     pairs (c ∷ k ∷ []) e b r w =

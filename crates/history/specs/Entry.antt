@@ -10,7 +10,7 @@ use lib.Dec.{leb, eqb}
 use lib.ListN.{length, getD, take, drop, replicate}
 use lib.Seq.{sets}
 use Rattle.loops.specs.Loops.{pick}
-use Rattle.line.specs.Grammar.{spaceByte, spaced, inRange}
+use Rattle.line.specs.Grammar.{spaceByte, spaced, wordSized}
 use Rattle.line.specs.Reading.{numbersIn}
 use Rattle.entries.specs.Entries.{entryWords}
 
@@ -34,9 +34,9 @@ unwritten c k = 1 ∷ c ∷ k ∷ replicate 8 0
 
 -- the line s is in the grammar and says the entry with these words; a number is at most 4,294,967,295
 pub data Says : List ℕ → List ℕ → Type 0 where
-  a-write : {ns : List ℕ} → length ns ≡ mostNumbers → inRange ns ≡ true → Says (writeByte ∷ spaced ns) (0 ∷ ns)
-  a-read : {ns : List ℕ} → length ns ≡ mostNumbers → inRange ns ≡ true → Says (readByte ∷ spaced ns) (1 ∷ ns)
-  an-unwritten : {c k : ℕ} → inRange (c ∷ k ∷ []) ≡ true → Says (readByte ∷ (spaced (c ∷ k ∷ []) ++ (spaceByte ∷ dashByte ∷ []))) (unwritten c k)
+  a-write : {ns : List ℕ} → length ns ≡ mostNumbers → wordSized ns ≡ true → Says (writeByte ∷ spaced ns) (0 ∷ ns)
+  a-read : {ns : List ℕ} → length ns ≡ mostNumbers → wordSized ns ≡ true → Says (readByte ∷ spaced ns) (1 ∷ ns)
+  an-unwritten : {c k : ℕ} → wordSized (c ∷ k ∷ []) ≡ true → Says (readByte ∷ (spaced (c ∷ k ∷ []) ++ (spaceByte ∷ dashByte ∷ []))) (unwritten c k)
 
 -- ---- reading
 

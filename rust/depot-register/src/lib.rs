@@ -44,6 +44,7 @@
 //! ```
 
 mod answers;
+pub mod audit;
 pub mod calendar;
 mod numbers;
 pub mod raw;
