@@ -15,6 +15,7 @@
 //! assert_eq!(read(&mut book, 0, 0), Ok(Reading { value: Some(20), vector: [1, 0, 0, 0] }));
 //! ```
 
+mod audit;
 pub mod calendar;
 mod calls;
 mod desk;
@@ -23,6 +24,7 @@ pub mod layout;
 mod looks;
 mod order;
 
+pub use audit::{audit, audit_lines, Verdict, ENTRY, MOST_ENTRIES, READ_ENTRY, WRITE_ENTRY};
 pub use calls::{below, read, refresh, setup, take, tick, vector, write, Reading, Written};
 pub use desk::{desk, line, LONGEST_LINE};
 pub use fit::{counts_and_homes, is_fit};
