@@ -110,15 +110,21 @@ module _ (π : Counts) (homes : List ℕ) where
       none _ (a-write {c} {w} t) = no-write c (w .bearing) (t .makes .0) (t .makes .1)
       none _ (a-read {c} {w} t) = no-read c (w .bearing) (t .gets .0)
 
-  -- what a call that is done tells
+  -- THE ENTRIES OF A CALL THAT IS DONE: of a read and of a write one, of any other none
+  pub read-told : (h : List Call) (c k : ℕ) → refusal π (run π homes h) (read c k) ≡ 0
+      → Told S h (read c k) (record { kind = 1; crew = c; write = record { bearing = k; version = answered π c k (run π homes h) } } ∷ [])
+  read-told h c k e =
+      told-one _ (a-read {w = record { bearing = k; version = answered π c k (run π homes h) }} (record { passed = e; gets = (refl, refl) })) (only-read h c k)
+
+  pub write-told : (h : List Call) (c k value : ℕ) → refusal π (run π homes h) (write c k value) ≡ 0
+      → Told S h (write c k value) (record { kind = 0; crew = c; write = record { bearing = k; version = made π c k value (run π homes h) } } ∷ [])
+  write-told h c k value e =
+      told-one _ (a-write {w = record { bearing = k; version = made π c k value (run π homes h) }} (record { passed = e; makes = (value, refl, refl) }))
+      (only-write h c k value)
+
   telling : (h : List Call) (q : Call) → refusal π (run π homes h) q ≡ 0 → (new : List Entry) × Told S h q new
-  telling h (read c k) e =
-      (_, told-one _ (a-read {w = record { bearing = k; version = answered π c k (run π homes h) }} (record { passed = e; gets = (refl, refl) })) (only-read h c k))
-  telling h (write c k value) e = (
-    _,
-    told-one _ (a-write {w = record { bearing = k; version = made π c k value (run π homes h) }} (record { passed = e; makes = (value, refl, refl) }))
-        (only-write h c k value),
-  )
+  telling h (read c k) e = (_, read-told h c k e)
+  telling h (write c k value) e = (_, write-told h c k value e)
   telling h (tick d s) e =
       ([], quiet h _ (λ c k p. let z : _≡_ {A = ℕ} 0 1 = cc in omega arith) (λ c k v p. let z : _≡_ {A = ℕ} 0 1 = cc in omega arith))
   telling h (take d s o) e =
