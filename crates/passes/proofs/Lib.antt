@@ -1,4 +1,3 @@
-pub mod Padded
 pub mod LogLaws
 pub mod WordLaws
 pub mod Resting

@@ -17,7 +17,7 @@ use Rattle.order.specs.Vector.{agree, zeros}
 use Rattle.order.specs.Order.{Rank, above}
 use Rattle.order.proofs.VectorLaws.{agree-at, agree-intro, zeros-intro}
 use Rattle.order.proofs.OrderLaws.{above-cong}
-use Rattle.passes.proofs.Padded.{above-padded}
+use Rattle.order.proofs.OrderPadded.{above-padded}
 use Rattle.model.specs.Parts as model
 use Rattle.model.specs.Parts.{Counts, Version, Write, unwritten}
 use Rattle.entries.specs.Entries.{kind, crew, bearing, origin, vector, stamp, rank, isWrite, isRead, wrote, source, twin, earlier}
