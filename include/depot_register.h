@@ -28,6 +28,7 @@ extern "C" {
 #define DEPOT_RECORD_WORDS 9   /* words of a version record */
 #define DEPOT_READ_WORDS 6     /* room that depot_read's answer takes in `out` */
 #define DEPOT_WRITE_WORDS 2    /* room that depot_write's answer takes in `out` */
+#define DEPOT_WHO_WORDS 2      /* room that depot_who_has's answer takes in `out` */
 #define DEPOT_NUMBER_WORDS 1   /* room that depot_day_number's answer takes in `out` */
 #define DEPOT_DATE_WORDS 3     /* room that depot_date_of's answer takes in `out` */
 #define DEPOT_NEXT_WORDS 4     /* room that depot_next_date's answer takes in `out` */
@@ -51,6 +52,8 @@ enum depot_answer {
     DEPOT_LINK_FULL = 9,     /* a write or a tick, and some link out has no room */
     DEPOT_CLOCK_AT_END = 10, /* a write or a tick, and the clock is 2,147,483,647 */
     DEPOT_BAD_COUNTS = 11,   /* a setup, and a count is out of range or the homes are not as many as the crews */
+    DEPOT_NOT_HERE_YET = 12, /* a move, and for some depot other than the new home the crew's entry is above the lowest stamp
+                              * that any shelf of the new home has seen from it */
     DEPOT_BAD_LINE = 13,     /* depot_line only */
     DEPOT_BAD_DATE = 16      /* a write, and the value is over DEPOT_LAST_DAY */
 };
@@ -81,6 +84,17 @@ uint32_t depot_take(uint32_t *book, size_t words, uint32_t depot, uint32_t shelf
 /* The shelf raises its stable vector to the lowest stamps that the depot's shelves have seen, and shows what that covers.
  * Checks: 1, 2, 3. */
 uint32_t depot_refresh(uint32_t *book, size_t words, uint32_t depot, uint32_t shelf);
+
+/* Which depots now store a depot's present version of a bearing or a greater one. Looking changes no word of the book.
+ * Checks: 100 if out_count is below DEPOT_WHO_WORDS, 1, 2, 4.
+ * Done: bit d of out[0] is set if depot d has it, the depot itself among them; out[1] is how many bits are set. If what
+ * the depot has is unwritten, all depots have it. No other element of `out` is written. */
+uint32_t depot_who_has(const uint32_t *book, size_t words, uint32_t depot, uint32_t bearing, uint32_t *out, size_t out_count);
+
+/* A crew gets a new home, `depot`. It is let in when every shelf there has seen what the crew has seen of every other depot,
+ * so it reads there nothing lower than its past. To its present home it may always move; that changes nothing. One word of
+ * the book moves. Checks: 1, 5, 2, 12. */
+uint32_t depot_move(uint32_t *book, size_t words, uint32_t crew, uint32_t depot);
 
 /* 1 if the book is fit, else 0. A book of the wrong length is not. */
 uint32_t depot_is_fit(const uint32_t *book, size_t words);

@@ -17,6 +17,8 @@ use Rattle.export.proofs.depot_take.Kinds as take-kinds
 use Rattle.export.proofs.depot_take.Reads as depot_take
 use Rattle.export.proofs.depot_refresh.Kinds as refresh-kinds
 use Rattle.export.proofs.depot_refresh.Reads as depot_refresh
+use Rattle.export.proofs.depot_who_has.Kinds as who-has-kinds
+use Rattle.export.proofs.depot_who_has.Reads as depot_who_has
 use Rattle.export.proofs.depot_is_fit.Kinds as is-fit-kinds
 use Rattle.export.proofs.depot_is_fit.Reads as depot_is_fit
 use Rattle.export.proofs.depot_greater.Kinds as greater-kinds
@@ -56,6 +58,9 @@ take-unique κs args one other end end′ p q = p .0 ∙ sym (q .0)
 
 pub refresh-unique : Settled 1 refresh-kinds.ps refresh-kinds.r depot_refresh.Learnt
 refresh-unique κs args one other end end′ p q = p .0 ∙ sym (q .0)
+
+pub who-has-unique : Settled 2 who-has-kinds.ps who-has-kinds.r depot_who_has.Learnt
+who-has-unique κs args one other end end′ p q = p .0 ∙ sym (q .0)
 
 -- the whole book's check, the greater of two records, a line
 pub is-fit-unique : Settled 1 is-fit-kinds.ps is-fit-kinds.r depot_is_fit.Learnt

@@ -1,17 +1,24 @@
 // The register as C calls it: each function makes one call and gives the number of its answer. include/depot_register.h declares them.
 pub mod audit;
 pub mod days;
+pub mod moves;
 
 use book::parts::wide;
+use calls::reply::answered;
 use events::answer::answer_line;
+use holders::tell_who;
 use order::record::MOST_DEPOTS;
 use order::record::exceeds;
-use paper::request::Request;
+use paper::answer::Payload;
+use paper::number::number_in;
+use refresh::refresh;
 use reply::ANSWER_ROOM;
-use telling::READ_WORDS;
-use telling::WRITE_WORDS;
-use telling::ask;
-use telling::ask_telling;
+use setup::setup;
+use take::take;
+use telling::tell_grams;
+use telling::tell_read;
+use telling::tell_write;
+use tick::tick;
 use whole::is_fit;
 ghost use mathlib.Core.Path.{_≡_};
 ghost use lib.Dec.{leb};
@@ -22,7 +29,10 @@ ghost use Rattle.fit.specs.Fit.{fit};
 ghost use Rattle.paper.specs.Calls.{read, write, tick, take, refresh};
 ghost use Rattle.upkeep.specs.Requests.{setup, call, numberAt, replyTo, bookAfter};
 ghost use Rattle.room.specs.Room.{noRoom, inRoom, filled};
-ghost use Rattle.telling.specs.Told.{readWords, writeWords, wordsOf};
+ghost use Rattle.card.specs.Card.{gramsAnswer, gramsNumber};
+ghost use Rattle.telling.specs.Told.{readWords, writeWords, gramsWords, wordsOf, gramsOut};
+ghost use Rattle.who.specs.Who.{whoTold};
+ghost use Rattle.holders.specs.Told.{whoWords, toldNumber, toldOut};
 ghost use Rattle.reply.specs.Printed.{answerRoom};
 ghost use Rattle.events.specs.Answering as events;
 ghost use Rattle.events.specs.Answering.{answerTo};
@@ -40,13 +50,8 @@ pub extern "C" fn depot_setup(
     ensures { λ r. ⌜ r ≡ numberAt (now (book .entry)) (setup (record { depots = depots; shelves = shelves; bearings = bearings; crews = crews }) (now (homes .entry))) ⌝ }
     ensures { λ r. ⌜ now (book .exit) ≡ bookAfter (now (book .entry)) (setup (record { depots = depots; shelves = shelves; bearings = bearings; crews = crews }) (now (homes .entry))) ⌝ }
 {
-    let request = Request::Setup {
-        depots,
-        shelves,
-        bearings,
-        crews,
-    };
-    ask(book, request, homes)
+    let reply = answered(setup(book, depots, shelves, bearings, crews, homes));
+    number_in(reply)
 }
 
 #[no_mangle]
@@ -54,8 +59,8 @@ pub extern "C" fn depot_tick(book: &mut [u32], depot: u32, shelf: u32) -> u32
     ensures { λ r. ⌜ r ≡ numberAt (now (book .entry)) (call (tick depot shelf)) ⌝ }
     ensures { λ r. ⌜ now (book .exit) ≡ bookAfter (now (book .entry)) (call (tick depot shelf)) ⌝ }
 {
-    let request = Request::Tick { depot, shelf };
-    ask(book, request, &[0u32; 0])
+    let reply = answered(tick(book, depot, shelf));
+    number_in(reply)
 }
 
 #[no_mangle]
@@ -63,8 +68,8 @@ pub extern "C" fn depot_take(book: &mut [u32], depot: u32, shelf: u32, from: u32
     ensures { λ r. ⌜ r ≡ numberAt (now (book .entry)) (call (take depot shelf from)) ⌝ }
     ensures { λ r. ⌜ now (book .exit) ≡ bookAfter (now (book .entry)) (call (take depot shelf from)) ⌝ }
 {
-    let request = Request::Take { depot, shelf, from };
-    ask(book, request, &[0u32; 0])
+    let reply = answered(take(book, depot, shelf, from));
+    number_in(reply)
 }
 
 #[no_mangle]
@@ -72,8 +77,8 @@ pub extern "C" fn depot_refresh(book: &mut [u32], depot: u32, shelf: u32) -> u32
     ensures { λ r. ⌜ r ≡ numberAt (now (book .entry)) (call (refresh depot shelf)) ⌝ }
     ensures { λ r. ⌜ now (book .exit) ≡ bookAfter (now (book .entry)) (call (refresh depot shelf)) ⌝ }
 {
-    let request = Request::Refresh { depot, shelf };
-    ask(book, request, &[0u32; 0])
+    let reply = answered(refresh(book, depot, shelf));
+    number_in(reply)
 }
 
 #[no_mangle]
@@ -83,8 +88,7 @@ pub extern "C" fn depot_read(book: &mut [u32], crew: u32, bearing: u32, out: &mu
     ensures { λ r. ⌜ now (out .exit)
         ≡ inRoom readWords (now (out .entry)) (filled (wordsOf (replyTo (now (book .entry)) (call (read crew bearing)))) (now (out .entry))) (now (out .entry)) ⌝ }
 {
-    let request = Request::Read { crew, bearing };
-    ask_telling(book, request, READ_WORDS, out)
+    tell_read(book, crew, bearing, out)
 }
 
 #[no_mangle]
@@ -93,19 +97,39 @@ pub extern "C" fn depot_write(
     crew: u32,
     bearing: u32,
     value: u32,
+    diameter: u32,
+    width: u32,
     out: &mut [u32],
 ) -> u32
-    ensures { λ r. ⌜ r ≡ inRoom writeWords (now (out .entry)) (numberAt (now (book .entry)) (call (write crew bearing value))) noRoom ⌝ }
-    ensures { λ r. ⌜ now (book .exit) ≡ inRoom writeWords (now (out .entry)) (bookAfter (now (book .entry)) (call (write crew bearing value))) (now (book .entry)) ⌝ }
+    ensures { λ r. ⌜ r ≡ inRoom writeWords (now (out .entry)) (numberAt (now (book .entry)) (call (write crew bearing (record { value = value; diameter = diameter; width = width })))) noRoom ⌝ }
+    ensures { λ r. ⌜ now (book .exit)
+        ≡ inRoom writeWords (now (out .entry)) (bookAfter (now (book .entry)) (call (write crew bearing (record { value = value; diameter = diameter; width = width })))) (now (book .entry)) ⌝ }
     ensures { λ r. ⌜ now (out .exit)
-        ≡ inRoom writeWords (now (out .entry)) (filled (wordsOf (replyTo (now (book .entry)) (call (write crew bearing value)))) (now (out .entry))) (now (out .entry)) ⌝ }
+        ≡ inRoom writeWords (now (out .entry)) (filled (wordsOf (replyTo (now (book .entry)) (call (write crew bearing (record { value = value; diameter = diameter; width = width }))))) (now (out .entry))) (now (out .entry)) ⌝ }
 {
-    let request = Request::Write {
-        crew,
-        bearing,
+    let payload = Payload {
         value,
+        diameter,
+        width,
     };
-    ask_telling(book, request, WRITE_WORDS, out)
+    tell_write(book, crew, bearing, payload, out)
+}
+
+// The grams of the card of two words: the low and the high word of their bits.
+#[no_mangle]
+pub extern "C" fn depot_grams(diameter: u32, width: u32, out: &mut [u32]) -> u32
+    ensures { λ r. ⌜ r ≡ inRoom gramsWords (now (out .entry)) (gramsNumber (gramsAnswer diameter width)) noRoom ⌝ }
+    ensures { λ r. ⌜ now (out .exit) ≡ inRoom gramsWords (now (out .entry)) (filled (gramsOut (gramsAnswer diameter width)) (now (out .entry))) (now (out .entry)) ⌝ }
+{
+    tell_grams(diameter, width, out)
+}
+
+#[no_mangle]
+pub extern "C" fn depot_who_has(book: &[u32], depot: u32, bearing: u32, out: &mut [u32]) -> u32
+    ensures { λ r. ⌜ r ≡ inRoom whoWords (now (out .entry)) (toldNumber (whoTold (now (book .entry)) depot bearing)) noRoom ⌝ }
+    ensures { λ r. ⌜ now (out .exit) ≡ inRoom whoWords (now (out .entry)) (toldOut (whoTold (now (book .entry)) depot bearing) (now (out .entry))) (now (out .entry)) ⌝ }
+{
+    tell_who(book, depot, bearing, out)
 }
 
 #[no_mangle]

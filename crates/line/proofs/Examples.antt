@@ -2,7 +2,7 @@
 -- Assumes nothing.
 use Prim.Native.Nat.{ℕ, zero, suc}
 use mathlib.Core.Path.{_≡_, refl}
-use mathlib.Core.List.{List, [], _∷_}
+use mathlib.Core.List.{List, [], _∷_, _++_}
 use mathlib.Core.Bool.{true, false}
 use lib.ListN.{replicate}
 use Rattle.loops.specs.Loops.{pick}
@@ -17,8 +17,12 @@ listing-setup : reading (83 ∷ 32 ∷ 50 ∷ 32 ∷ 50 ∷ 32 ∷ 52 ∷ 32 ∷
 unfolding pick isDigit digitRun valueFrom spareZero isNumber eventOf before numbersIn counted named headed reading
 listing-setup = refl
 
-listing-write : reading (87 ∷ 32 ∷ 48 ∷ 32 ∷ 49 ∷ 32 ∷ 51 ∷ 48 ∷ []) ≡ good Write (0 ∷ 1 ∷ 30 ∷ [])
-unfolding pick isDigit digitRun valueFrom spareZero isNumber eventOf before numbersIn counted named headed reading
+-- 1065353216 after a space
+one : List ℕ
+one = 32 ∷ 49 ∷ 48 ∷ 54 ∷ 53 ∷ 51 ∷ 53 ∷ 51 ∷ 50 ∷ 49 ∷ 54 ∷ []
+
+listing-write : reading ((87 ∷ 32 ∷ 48 ∷ 32 ∷ 49 ∷ 32 ∷ 51 ∷ 48 ∷ []) ++ (one ++ one)) ≡ good Write (0 ∷ 1 ∷ 30 ∷ 1065353216 ∷ 1065353216 ∷ [])
+unfolding one pick isDigit digitRun valueFrom spareZero isNumber eventOf before numbersIn counted named headed reading
 listing-write = refl
 
 listing-tick : reading (75 ∷ 32 ∷ 48 ∷ 32 ∷ 49 ∷ []) ≡ good Tick (0 ∷ 1 ∷ [])
@@ -59,6 +63,11 @@ space-at-end : reading (82 ∷ 32 ∷ 48 ∷ 32 ∷ 49 ∷ 32 ∷ []) ≡ bad
 unfolding pick isDigit digitRun valueFrom spareZero isNumber eventOf before numbersIn counted named headed reading
 space-at-end = refl
 
+-- a write without its card
+write-of-three : reading (87 ∷ 32 ∷ 48 ∷ 32 ∷ 49 ∷ 32 ∷ 51 ∷ 48 ∷ []) ≡ bad
+unfolding pick isDigit digitRun valueFrom spareZero isNumber eventOf before numbersIn counted named headed reading
+write-of-three = refl
+
 setup-of-three : reading (83 ∷ 32 ∷ 49 ∷ 32 ∷ 49 ∷ 32 ∷ 49 ∷ []) ≡ bad
 unfolding pick isDigit digitRun valueFrom spareZero isNumber eventOf before numbersIn counted named headed reading
 setup-of-three = refl
@@ -87,8 +96,8 @@ answer-wait : numberAnswer 8 ≡ 56 ∷ []
 unfolding pick spelled decimal
 answer-wait = refl
 
-answer-read : valueAnswer 20 (1 ∷ 0 ∷ []) ≡ 48 ∷ 32 ∷ 50 ∷ 48 ∷ 32 ∷ 49 ∷ 32 ∷ 48 ∷ []
-unfolding pick spelled decimal spaced
+answer-read : valueAnswer (record { value = 20; diameter = 1065353216; width = 1065353216 }) (1 ∷ 0 ∷ []) ≡ (48 ∷ 32 ∷ 50 ∷ 48 ∷ []) ++ (one ++ (one ++ (32 ∷ 49 ∷ 32 ∷ 48 ∷ [])))
+unfolding one pick spelled decimal spaced
 answer-read = refl
 
 answer-unwritten : unwrittenAnswer (0 ∷ 0 ∷ []) ≡ 48 ∷ 32 ∷ 45 ∷ 32 ∷ 48 ∷ 32 ∷ 48 ∷ []

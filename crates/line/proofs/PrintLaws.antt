@@ -11,6 +11,7 @@ use lib.ListN.{length, getD, take, drop, set, length-append, take-append-drop}
 use lib.Seq.{sets, sets-eq, length-sets, take-suc, take-take, take-all, take-append-le}
 use Rattle.line.specs.Number.{decimal}
 use Rattle.line.specs.Grammar.{spaced}
+use Rattle.paper.specs.declared.answer.Payload.{Payload}
 use Rattle.line.specs.Answers.{valueAnswer, unwrittenAnswer, standing, stampAnswer}
 use Rattle.line.specs.Printing.{Room, Wrote}
 use Rattle.line.proofs.SpellingLaws.{spelled-length, decimal-one, decimal-more}
@@ -140,11 +141,11 @@ spaced-length (n ∷ ns) =
 pub room-enough : {o : List ℕ} {at : ℕ} (bytes : List ℕ) (n : ℕ) → length bytes ≤ n → at + n ≤ length o → Room o at bytes
 room-enough bytes n h l = record { room = omega arith }
 
--- an answer of a register of D depots has at most 12 + 11 D bytes
-pub value-answer-length : (v : ℕ) (vector : List ℕ) → length (valueAnswer v vector) ≤ 12 + 11 * length vector
-value-answer-length v vector =
-    let e = length-append (decimal v) (spaced vector) in
-    let h = decimal-length v in
+-- an answer of a register of D depots has at most 34 + 11 D bytes
+pub value-answer-length : (p : Payload) (vector : List ℕ) → length (valueAnswer p vector) ≤ 34 + 11 * length vector
+value-answer-length p vector =
+    let e = length-append (spaced (p .value ∷ p .diameter ∷ p .width ∷ [])) (spaced vector) in
+    let h = spaced-length (p .value ∷ p .diameter ∷ p .width ∷ []) in
     let k = spaced-length vector in
     omega arith
 

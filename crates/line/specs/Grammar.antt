@@ -20,12 +20,12 @@ letter Take = 84
 letter Refresh = 70
 
 -- how many numbers an event takes, at least. In their order they are
---   S the four counts, then the homes · R crew, bearing · W crew, bearing, value
+--   S the four counts, then the homes · R crew, bearing · W crew, bearing, value, bits of diameter, bits of width
 --   K depot, shelf · T at depot, shelf, from depot · F depot, shelf
 abbrev pub least : Event → ℕ
 least Setup = 4
 least Read = 2
-least Write = 3
+least Write = 5
 least Tick = 2
 least Take = 3
 least Refresh = 2
@@ -34,7 +34,7 @@ least Refresh = 2
 abbrev pub most : Event → ℕ
 most Setup = 20
 most Read = 2
-most Write = 3
+most Write = 5
 most Tick = 2
 most Take = 3
 most Refresh = 2

@@ -12,7 +12,8 @@ use borrow.Author.Tests.{lt-leb}
 use Rattle.loops.proofs.BoolLaws.{and-stop, pick-true, le-or-lt, eq-or-ne}
 use Rattle.order.specs.Order.{above}
 use Rattle.order.proofs.OrderLaws.{above-trans}
-use Rattle.paper.specs.Calls.{Call, read, write, tick, take, refresh, first}
+use Rattle.paper.specs.Calls.{Call, read, write, tick, take, refresh, move, first}
+use Rattle.paper.specs.declared.answer.Payload.{Payload}
 use Rattle.model.specs.Parts.{Counts, Version, Write, rank}
 use Rattle.model.specs.Calls.{setup, within, made, answered, refusal}
 use Rattle.model.specs.System.{System, ofModel, run}
@@ -94,16 +95,16 @@ module _ (π : Counts) (homes : List ℕ) where
       ap₂ (λ (x : ℕ) (y : Write). record { kind = 1; crew = x; write = y }) p
       (ap₂ (λ (x : ℕ) (y : Version). record { bearing = x; version = y }) q (t .gets .1 ∙ ap₂ (λ (x y : ℕ). answered π x y (run π homes h)) p q))
 
-  only-write : (h : List Call) (c k value : ℕ) (x : Entry) → Tells S h (write c k value) x
-      → x ≡ record { kind = 0; crew = c; write = record { bearing = k; version = made π c k value (run π homes h) } }
-  only-write h c k value _ (a-write {c = b} {w = w} t) =
+  only-write : (h : List Call) (c k : ℕ) (p : Payload) (x : Entry) → Tells S h (write c k p) x
+      → x ≡ record { kind = 0; crew = c; write = record { bearing = k; version = made π c k p (run π homes h) } }
+  only-write h c k p _ (a-write {c = b} {w = w} t) =
       let e = t .makes .1 in
-      let p : b ≡ c = cc in
-      ap₂ (λ (x : ℕ) (y : Write). record { kind = 0; crew = x; write = y }) p (wrote-same π homes t)
-  only-write h c k value _ (a-read {c = b} {w = w} t) = absurd (let e = t .gets .0 in let z : _≡_ {A = ℕ} 0 1 = cc in omega arith)
+      let same : b ≡ c = cc in
+      ap₂ (λ (x : ℕ) (y : Write). record { kind = 0; crew = x; write = y }) same (wrote-same π homes t)
+  only-write h c k p _ (a-read {c = b} {w = w} t) = absurd (let e = t .gets .0 in let z : _≡_ {A = ℕ} 0 1 = cc in omega arith)
 
   -- a call that is neither a read nor a write makes no entry
-  quiet : (h : List Call) (q : Call) → ((c k : ℕ) → q ≡ read c k → ⊥) → ((c k value : ℕ) → q ≡ write c k value → ⊥) → Told S h q []
+  quiet : (h : List Call) (q : Call) → ((c k : ℕ) → q ≡ read c k → ⊥) → ((c k : ℕ) (p : Payload) → q ≡ write c k p → ⊥) → Told S h q []
   quiet h q no-read no-write = told-none none
     where
       none : (e : Entry) → Tells S h q e → ⊥
@@ -116,21 +117,24 @@ module _ (π : Counts) (homes : List ℕ) where
   read-told h c k e =
       told-one _ (a-read {w = record { bearing = k; version = answered π c k (run π homes h) }} (record { passed = e; gets = (refl, refl) })) (only-read h c k)
 
-  pub write-told : (h : List Call) (c k value : ℕ) → refusal π (run π homes h) (write c k value) ≡ 0
-      → Told S h (write c k value) (record { kind = 0; crew = c; write = record { bearing = k; version = made π c k value (run π homes h) } } ∷ [])
-  write-told h c k value e =
-      told-one _ (a-write {w = record { bearing = k; version = made π c k value (run π homes h) }} (record { passed = e; makes = (value, refl, refl) }))
-      (only-write h c k value)
+  pub write-told : (h : List Call) (c k : ℕ) (p : Payload) → refusal π (run π homes h) (write c k p) ≡ 0
+      → Told S h (write c k p) (record { kind = 0; crew = c; write = record { bearing = k; version = made π c k p (run π homes h) } } ∷ [])
+  write-told h c k p e =
+      told-one _ (a-write {w = record { bearing = k; version = made π c k p (run π homes h) }} (record { passed = e; makes = (p, refl, refl) }))
+      (only-write h c k p)
 
   telling : (h : List Call) (q : Call) → refusal π (run π homes h) q ≡ 0 → (new : List Entry) × Told S h q new
   telling h (read c k) e = (_, read-told h c k e)
-  telling h (write c k value) e = (_, write-told h c k value e)
+  telling h (write c k p) e = (_, write-told h c k p e)
   telling h (tick d s) e =
       ([], quiet h _ (λ c k p. let z : _≡_ {A = ℕ} 0 1 = cc in omega arith) (λ c k v p. let z : _≡_ {A = ℕ} 0 1 = cc in omega arith))
   telling h (take d s o) e =
       ([], quiet h _ (λ c k p. let z : _≡_ {A = ℕ} 0 1 = cc in omega arith) (λ c k v p. let z : _≡_ {A = ℕ} 0 1 = cc in omega arith))
   telling h (refresh d s) e =
       ([], quiet h _ (λ c k p. let z : _≡_ {A = ℕ} 0 1 = cc in omega arith) (λ c k v p. let z : _≡_ {A = ℕ} 0 1 = cc in omega arith))
+
+  telling h (move c d) e =
+      ([], quiet h _ (λ b k p. let z : _≡_ {A = ℕ} 0 1 = cc in omega arith) (λ b k v p. let z : _≡_ {A = ℕ} 0 1 = cc in omega arith))
 
   log : (h : List Call) → (es : List Entry) × Logged S h es
   log [] = ([], nothing)

@@ -131,7 +131,7 @@ module _ (π : Counts) where
         recorded : Write → ℕ → ℕ
         recorded w x =
             getD
-            (w .bearing ∷ w .version .value ∷ 0 ∷ 0 ∷ w .version .origin
+            (w .bearing ∷ w .version .payload .value ∷ w .version .payload .diameter ∷ w .version .payload .width ∷ w .version .origin
             ∷ shown π (w .version) 0 ∷ shown π (w .version) 1 ∷ shown π (w .version) 2 ∷ shown π (w .version) 3 ∷ []) x 0
 
         tail : (i x : ℕ) → i < length es → x < 9 → getD h (i * 11 + 2 + x) 0 ≡ recorded (nth es i .write) x

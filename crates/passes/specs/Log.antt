@@ -32,7 +32,8 @@ shown π v x = pick (ltb x (π .depots)) (v .vector x) 0
 
 unfoldable pub words : Counts → Entry → List ℕ
 words π e =
-    e .kind ∷ e .crew ∷ e .write .bearing ∷ e .write .version .value ∷ 0 ∷ 0 ∷ e .write .version .origin
+    e .kind ∷ e .crew ∷ e .write .bearing
+    ∷ e .write .version .payload .value ∷ e .write .version .payload .diameter ∷ e .write .version .payload .width ∷ e .write .version .origin
     ∷ shown π (e .write .version) 0 ∷ shown π (e .write .version) 1 ∷ shown π (e .write .version) 2 ∷ shown π (e .write .version) 3 ∷ []
 
 unfoldable pub wordsOf : Counts → List Entry → List ℕ

@@ -1,4 +1,4 @@
--- The room that is asked for is enough: what a read tells has at most six words, what a write tells two, so that with room all of it is written.
+-- The room that is asked for is enough: what a read tells has at most eight words, what a write tells two, so that with room all of it is written.
 -- Assumes nothing.
 use Prim.Native.Nat.{ℕ, _≤_}
 use native.Mathlib.Nat.{le-trans}
@@ -10,6 +10,7 @@ use lib.Dec.{eqb}
 use lib.ListN.{length}
 use lib.Seq.{sets}
 use Rattle.loops.specs.Loops.{pick}
+use Rattle.paper.specs.declared.answer.Payload.{Payload}
 use Rattle.paper.specs.Calls.{Answer, refused, reads, Told, read-value, read-unwritten, read, write, answerBy}
 use Rattle.paper.specs.Answers.{padded}
 use Rattle.register.specs.Answers.{told, written}
@@ -26,7 +27,7 @@ or-refused false n m a h = omega arith
 
 told-room : (t : Told) → length (wordsOf (reads t)) ≤ readWords
 unfolding wordsOf padded
-told-room (read-value v u) = omega arith
+told-room (read-value p u) = omega arith
 told-room (read-unwritten u) = omega arith
 
 written-room : (stamp : ℕ) (t : Bool) → length (wordsOf (written stamp t)) ≤ writeWords
@@ -39,8 +40,8 @@ pub read-whole : (l : List ℕ) (c k : ℕ) (o : List ℕ) → readWords ≤ len
 unfolding replyTo doneAnswer answerBy
 read-whole l c k o h = filled-whole _ _ (le-trans (or-refused (eqb (numberAt l (call (read c k))) 0) (numberAt l (call (read c k))) readWords _ (told-room _)) h)
 
-pub write-whole : (l : List ℕ) (c k value : ℕ) (o : List ℕ) → writeWords ≤ length o
-    → filled (wordsOf (replyTo l (call (write c k value)))) o ≡ sets o 0 (wordsOf (replyTo l (call (write c k value))))
+pub write-whole : (l : List ℕ) (c k : ℕ) (payload : Payload) (o : List ℕ) → writeWords ≤ length o
+    → filled (wordsOf (replyTo l (call (write c k payload)))) o ≡ sets o 0 (wordsOf (replyTo l (call (write c k payload))))
 unfolding replyTo doneAnswer answerBy
-write-whole l c k value o h =
-    filled-whole _ _ (le-trans (or-refused (eqb (numberAt l (call (write c k value))) 0) (numberAt l (call (write c k value))) writeWords _ (written-room _ _)) h)
+write-whole l c k payload o h =
+    filled-whole _ _ (le-trans (or-refused (eqb (numberAt l (call (write c k payload))) 0) (numberAt l (call (write c k payload))) writeWords _ (written-room _ _)) h)

@@ -20,6 +20,6 @@ module _ (r : Reply) {o : Outcome} (e : r .outcome ≡ o) where
   unfolding onPaper padded
   vector-told h = ap padded (h .vector ∙ ap (λ (x : Outcome). padded (entriesIn (paperOutcome x (take (r .depots) (r .vector))))) e)
 
--- with the two words before it
-pub after-two : {a b : ℕ} {u w : List ℕ} → u ≡ w → a ∷ b ∷ u ≡ a ∷ b ∷ w
-after-two {a} {b} e = ap (λ (x : List ℕ). a ∷ b ∷ x) e
+-- with the four words before it
+pub after-four : {a b c d : ℕ} {u w : List ℕ} → u ≡ w → a ∷ b ∷ c ∷ d ∷ u ≡ a ∷ b ∷ c ∷ d ∷ w
+after-four {a} {b} {c} {d} e = ap (λ (x : List ℕ). a ∷ b ∷ c ∷ d ∷ x) e

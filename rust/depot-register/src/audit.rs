@@ -7,10 +7,11 @@
 //! let counts = Counts { depots: 2, shelves: 1, bearings: 4, crews: 2 };
 //! let mut register = Register::setup(counts, &[Depot(0), Depot(1)]).unwrap();
 //! let mut recorder = Recorder::new();
-//! for line in [&b"W 0 2 9131"[..], b"R 1 2", b"T 1 0 0", b"F 1 0", b"R 1 2"] {
+//! for line in [&b"W 0 2 9131 1065353216 1065353216"[..], b"R 1 2", b"T 1 0 0", b"F 1 0", b"R 1 2"] {
 //!     recorder.line(&mut register, line);
 //! }
-//! assert_eq!(recorder.lines(), "W 0 2 9131 0 0 0 1 0 0 0\nR 1 2 -\nR 1 2 9131 0 0 0 1 0 0 0\n");
+//! let version = "9131 1065353216 1065353216 0 1 0 0 0";
+//! assert_eq!(recorder.lines(), format!("W 0 2 {}\nR 1 2 -\nR 1 2 {}\n", version, version));
 //! assert_eq!(recorder.verdict(), Verdict::Causal);
 //! ```
 
@@ -131,8 +132,9 @@ impl Recorder {
     fn write(&mut self, book: &[u32], numbers: &[u32]) {
         let crew = numbers[0];
         let at = 20 + 4 * crew as usize;
-        let card = if numbers.len() == 5 { [numbers[3], numbers[4]] } else { [0; 2] };
-        self.words.extend([WRITE, crew, numbers[1], numbers[2], card[0], card[1], home(book, crew)]);
+        self.words.extend([WRITE, crew]);
+        self.words.extend(&numbers[1..5]);
+        self.words.push(home(book, crew));
         self.vector(&book[at..at + book[0] as usize]);
     }
 

@@ -30,6 +30,8 @@ mod library {
         pub fn depot_tick(book: *mut u32, words: usize, depot: u32, shelf: u32) -> u32;
         pub fn depot_take(book: *mut u32, words: usize, depot: u32, shelf: u32, from: u32) -> u32;
         pub fn depot_refresh(book: *mut u32, words: usize, depot: u32, shelf: u32) -> u32;
+        pub fn depot_who_has(book: *const u32, words: usize, depot: u32, bearing: u32, out: *mut u32, out_count: usize) -> u32;
+        pub fn depot_move(book: *mut u32, words: usize, crew: u32, depot: u32) -> u32;
         pub fn depot_is_fit(book: *const u32, words: usize) -> u32;
         pub fn depot_greater(a: *const u32, a_words: usize, b: *const u32, b_words: usize, depots: u32) -> u32;
         pub fn depot_line(book: *mut u32, words: usize, line: *const u8, length: usize, out: *mut u8, out_length: usize)
@@ -67,6 +69,14 @@ pub fn take(book: &mut [u32], depot: u32, shelf: u32, from: u32) -> u32 {
 
 pub fn refresh(book: &mut [u32], depot: u32, shelf: u32) -> u32 {
     unsafe { library::depot_refresh(book.as_mut_ptr(), book.len(), depot, shelf) }
+}
+
+pub fn who_has(book: &[u32], depot: u32, bearing: u32, out: &mut [u32]) -> u32 {
+    unsafe { library::depot_who_has(book.as_ptr(), book.len(), depot, bearing, out.as_mut_ptr(), out.len()) }
+}
+
+pub fn move_crew(book: &mut [u32], crew: u32, depot: u32) -> u32 {
+    unsafe { library::depot_move(book.as_mut_ptr(), book.len(), crew, depot) }
 }
 
 pub fn is_fit(book: &[u32]) -> u32 {

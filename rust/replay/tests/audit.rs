@@ -38,9 +38,9 @@ impl Tally {
     }
 }
 
-/// The line of a write.
+/// The line of a write, with a card of its value's own.
 fn write_line(crew: usize, bearing: usize, value: usize) -> String {
-    format!("W {} {} {}", crew, bearing, value)
+    format!("W {} {} {} {} 1065353216", crew, bearing, value, 1_065_353_216 + value)
 }
 
 /// What the register did in a random history of so many entries at most.

@@ -4,7 +4,7 @@ use mathlib.Core.Path.{refl}
 use Rattle.paper.specs.Answers.{paperOutcome, entriesIn, padded}
 use Rattle.room.proofs.RoomLaws.{filled-none}
 use Rattle.telling.specs.Told.{wordsOf}
-use Rattle.telling.proofs.ToldLaws.{words-as, vector-told, after-two}
+use Rattle.telling.proofs.ToldLaws.{words-as, vector-told, after-four}
 use borrow.Author.Needs.{needs}
 use Rattle.telling.proofs.tell.Statement.{statement}
 use Rattle.telling.proofs.tell.Tie as tie
@@ -13,13 +13,13 @@ returns : tie.Need-returns
 unfolding wordsOf paperOutcome entriesIn padded
 returns c =
     let e = c .before .before .before .before .before .before .outcome .given .1 in
-    words-as _ e _ (after-two (vector-told _ e (c .before .before .before .before .before .before .before .before .before .before .pre))) (c .before .before .fill .ensures)
+    words-as _ e _ (after-four (vector-told _ e (c .before .before .before .before .before .before .before .before .before .before .pre))) (c .before .before .fill .ensures)
 
 returns-2 : tie.Need-returns-2
 unfolding wordsOf paperOutcome entriesIn padded
 returns-2 c =
     let e = c .before .before .before .before .before .enum-told .given .1 in
-    words-as _ e _ (after-two (vector-told _ e (c .before .before .before .before .before .before .before .before .before .pre))) (c .before .before .fill2 .ensures)
+    words-as _ e _ (after-four (vector-told _ e (c .before .before .before .before .before .before .before .before .before .pre))) (c .before .before .fill2 .ensures)
 
 returns-3 : tie.Need-returns-3
 unfolding wordsOf paperOutcome
