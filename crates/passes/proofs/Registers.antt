@@ -132,7 +132,6 @@ module _ (π : Counts) (homes : List ℕ) where
       ([], quiet h _ (λ c k p. let z : _≡_ {A = ℕ} 0 1 = cc in omega arith) (λ c k v p. let z : _≡_ {A = ℕ} 0 1 = cc in omega arith))
   telling h (refresh d s) e =
       ([], quiet h _ (λ c k p. let z : _≡_ {A = ℕ} 0 1 = cc in omega arith) (λ c k v p. let z : _≡_ {A = ℕ} 0 1 = cc in omega arith))
-
   telling h (move c d) e =
       ([], quiet h _ (λ b k p. let z : _≡_ {A = ℕ} 0 1 = cc in omega arith) (λ b k v p. let z : _≡_ {A = ℕ} 0 1 = cc in omega arith))
 
