@@ -22,19 +22,20 @@ extern "C" {
 #endif
 
 /* The version of the register. This is its one place: the scripts read it here, and the gate holds rust/ and CHANGELOG.md to it. */
-#define DEPOT_REGISTER_VERSION "0.2.0"
+#define DEPOT_REGISTER_VERSION "0.3.0"
 
 #define DEPOT_BOOK_WORDS 16384 /* words of a book */
 #define DEPOT_RECORD_WORDS 9   /* words of a version record */
-#define DEPOT_READ_WORDS 6     /* room that depot_read's answer takes in `out` */
+#define DEPOT_READ_WORDS 8     /* room that depot_read's answer takes in `out` */
 #define DEPOT_WRITE_WORDS 2    /* room that depot_write's answer takes in `out` */
 #define DEPOT_WHO_WORDS 2      /* room that depot_who_has's answer takes in `out` */
+#define DEPOT_GRAMS_WORDS 2    /* room that depot_grams' answer takes in `out` */
 #define DEPOT_NUMBER_WORDS 1   /* room that depot_day_number's answer takes in `out` */
 #define DEPOT_DATE_WORDS 3     /* room that depot_date_of's answer takes in `out` */
 #define DEPOT_NEXT_WORDS 4     /* room that depot_next_date's answer takes in `out` */
 #define DEPOT_LAST_DAY 146096  /* the day number of 31 December 2399, the last that can be written */
 #define DEPOT_LINE_BYTES 120   /* the longest line that is not a BAD LINE, its line feed not counted */
-#define DEPOT_ANSWER_BYTES 64  /* room that every answer line has, its line feed counted */
+#define DEPOT_ANSWER_BYTES 80  /* room that every answer line has, its line feed counted */
 #define DEPOT_NO_ROOM 100      /* the answer where `out` has fewer elements than the call's answer takes; nothing is done */
 
 /* The answers. Each call checks in the order that stands with it, and the first that holds is the answer. */
@@ -55,6 +56,7 @@ enum depot_answer {
     DEPOT_NOT_HERE_YET = 12, /* a move, and for some depot other than the new home the crew's entry is above the lowest stamp
                               * that any shelf of the new home has seen from it */
     DEPOT_BAD_LINE = 13,     /* depot_line only */
+    DEPOT_BAD_CARD = 14,     /* a write, or the grams, and a length is not finite, above 0 and at most 2,000 */
     DEPOT_BAD_DATE = 16      /* a write, and the value is over DEPOT_LAST_DAY */
 };
 
@@ -64,16 +66,22 @@ uint32_t depot_setup(uint32_t *book, size_t words, uint32_t depots, uint32_t she
                      const uint32_t *homes, size_t homes_count);
 
 /* A crew reads a bearing at its home. Checks: 100 if out_count is below DEPOT_READ_WORDS, 1, 5, 4.
- * Done: out[0] is 1 for written, 0 for unwritten; out[1] the value, 0 if unwritten; out[2] to out[5] the entries of the
- * vector, 0 past the depots. No other element of `out` is written. An old book may hold values over
- * DEPOT_LAST_DAY: it is fit, and they are read as they are. */
+ * Done: out[0] is 1 for written, 0 for unwritten; out[1] the value, out[2] and out[3] the bits of the card's diameter and
+ * width, all 0 if unwritten; out[4] to out[7] the entries of the vector, 0 past the depots. No other element of `out` is
+ * written. An old book may hold values over DEPOT_LAST_DAY: it is fit, and they are read as they are. */
 uint32_t depot_read(uint32_t *book, size_t words, uint32_t crew, uint32_t bearing, uint32_t *out, size_t out_count);
 
-/* A crew writes a bearing's value, a day of the calendar below, at its home. Checks: 100 if out_count is below
- * DEPOT_WRITE_WORDS, 1, 5, 4, 16, 8, 10, 9.
+/* A crew writes a bearing's value, a day of the calendar below, and its card, at its home. The card is the bits of two
+ * 32-bit floats, the outside diameter and the width in millimetres. Checks: 100 if out_count is below DEPOT_WRITE_WORDS,
+ * 1, 5, 4, 16, 14, 8, 10, 9.
  * Done: out[0] is the stamp; out[1] is 1 for current, 0 for superseded. No other element of `out` is written. */
-uint32_t depot_write(uint32_t *book, size_t words, uint32_t crew, uint32_t bearing, uint32_t value, uint32_t *out,
-                     size_t out_count);
+uint32_t depot_write(uint32_t *book, size_t words, uint32_t crew, uint32_t bearing, uint32_t value, uint32_t diameter,
+                     uint32_t width, uint32_t *out, size_t out_count);
+
+/* The grams of grease for a card of these bits: outside diameter times width, then times 0.005, in 64-bit floats, each step
+ * rounded once. Done: out[0] is the low word of the grams' bits, a 64-bit float, and out[1] the high word. Needs no book.
+ * Checks: 100 if out_count is below DEPOT_GRAMS_WORDS, 14. */
+uint32_t depot_grams(uint32_t diameter, uint32_t width, uint32_t *out, size_t out_count);
 
 /* A shelf's clock moves on by one, and a heartbeat goes on every link out. Checks: 1, 2, 3, 10, 9. */
 uint32_t depot_tick(uint32_t *book, size_t words, uint32_t depot, uint32_t shelf);

@@ -8,6 +8,9 @@ use book::numbers::Depot;
 use book::numbers::Shelf;
 use book::parts::set_clock;
 use libc::STDOUT_FILENO;
+use paper::answer::Answer;
+use paper::number::number_of;
+use rehome::move_crew;
 use reply::ANSWER_ROOM;
 use script::is_word;
 use script::repeated;
@@ -296,9 +299,47 @@ fn case_n(book: &mut [u32], out: &mut [u8]) -> bool
     let shown = runs(
         book,
         out,
-        b"R 1 0\n0 20 1 0\nT 1 1 0\n0\nF 1 1\n0\nK 0 0\n0\nT 1 0 0\n0\nF 1 1\n0\n",
+        b"R 1 0\n0 20 1065353216 1065353216 1 0\nT 1 1 0\n0\nF 1 1\n0\nK 0 0\n0\nT 1 0 0\n0\nF 1 1\n0\n",
     );
     listed && both && one && unwritten && shown && is_told(book, 0, 1, 3, 2)
+}
+
+// Whether a crew's move to a depot has this number.
+fn is_moved(book: &mut [u32], crew: u32, depot: u32, number: u32) -> bool {
+    match move_crew(book, crew, depot) {
+        Answer::Done => number == 0,
+        Answer::Refused(r) => number_of(r) == number,
+    }
+}
+
+// (o) a crew changes depot: not before both shelves there have seen what it wrote; there it reads that and writes on it, and back it goes when depot 0 has seen the second write.
+fn case_o(book: &mut [u32], out: &mut [u8]) -> bool
+    requires { ⌜ answerRoom ≤ length (now out) ⌝ }
+{
+    let written = runs(
+        book,
+        out,
+        b"S 2 2 4 2 0 1\n0\nW 0 0 20 1065353216 1065353216\n0 1 C\n",
+    );
+    let unseen = is_moved(book, 0, 1, 12);
+    let present = is_moved(book, 0, 0, 0);
+    let crew = is_moved(book, 2, 2, 5);
+    let depot = is_moved(book, 0, 2, 2);
+    let taken = runs(book, out, b"T 1 0 0\n0\n");
+    let behind = is_moved(book, 0, 1, 12);
+    let seen = runs(book, out, b"K 0 1\n0\nT 1 1 0\n0\n");
+    let there = is_moved(book, 0, 1, 0);
+    let read = runs(
+        book,
+        out,
+        b"R 0 0\n0 20 1065353216 1065353216 1 0\nW 0 0 30 1065353216 1065353216\n0 1 C\nR 0 0\n0 30 1065353216 1065353216 1 1\n",
+    );
+    let early = is_moved(book, 0, 0, 12);
+    let sent = runs(book, out, b"K 1 1\n0\nT 0 0 1\n0\nT 0 1 1\n0\n");
+    let back = is_moved(book, 0, 0, 0);
+    let ended = runs(book, out, b"R 0 0\n0 30 1065353216 1065353216 1 1\n");
+    let asked = unseen && present && crew && depot && behind && there && early && back;
+    written && taken && seen && read && sent && ended && asked
 }
 
 // (?) what must not pass: a wrong number, an answer that is cut, one that goes on, and a wrong word. Each is told as different.
@@ -353,6 +394,7 @@ fn from_requests(book: &mut [u32], out: &mut [u8])
     tell(b'l', case_l(book, out));
     tell(b'm', case_m(book, out));
     tell(b'n', case_n(book, out));
+    tell(b'o', case_o(book, out));
 }
 
 fn main() {

@@ -11,6 +11,8 @@ use Rattle.export.proofs.depot_read.Kinds as read-kinds
 use Rattle.export.proofs.depot_read.Reads as depot_read
 use Rattle.export.proofs.depot_write.Kinds as write-kinds
 use Rattle.export.proofs.depot_write.Reads as depot_write
+use Rattle.export.proofs.depot_grams.Kinds as grams-kinds
+use Rattle.export.proofs.depot_grams.Reads as depot_grams
 use Rattle.export.proofs.depot_tick.Kinds as tick-kinds
 use Rattle.export.proofs.depot_tick.Reads as depot_tick
 use Rattle.export.proofs.depot_take.Kinds as take-kinds
@@ -49,6 +51,9 @@ read-unique κs args one other end end′ p q = p .0 ∙ sym (q .0)
 
 pub write-unique : Settled 2 write-kinds.ps write-kinds.r depot_write.Learnt
 write-unique κs args one other end end′ p q = p .0 ∙ sym (q .0)
+
+pub grams-unique : Settled 1 grams-kinds.ps grams-kinds.r depot_grams.Learnt
+grams-unique κs args one other end end′ p q = p .0 ∙ sym (q .0)
 
 pub tick-unique : Settled 1 tick-kinds.ps tick-kinds.r depot_tick.Learnt
 tick-unique κs args one other end end′ p q = p .0 ∙ sym (q .0)

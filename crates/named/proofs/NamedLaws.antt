@@ -20,6 +20,7 @@ use Rattle.book.specs.Layout.{bookWords, linkRoom, countsOf, home, seen, linkOf
 use Rattle.fit.specs.Fit.{countsFit, Within, homeFit, crewFit, clockFit, stableFit, seenFit, shelfFit, othersInRange, storedFit}
 use Rattle.fit.specs.Fit.{copyFit, messageFit, headFit, messagesFit, linkFit}
 use Rattle.fit.specs.Fit.{homesFit, crewsFit, shelvesFit, linksFit, storesFit, partsFit, fit}
+use Rattle.named.specs.Named.{headsOutFit, waitingFit, placesFit, arrivalFit, showFit, tickParts, takeParts, refreshParts, homeParts, readParts, writeParts, moveParts}
 use Rattle.named.specs.Named.{baseFit, tickFit, takeFit, refreshFit, readFit, writeFit, moveFit}
 use Rattle.fit.proofs.FitLaws.{counts-within, IsFit, fit-open}
 use Rattle.versions.proofs.MessageLaws.{and-flat, link-heads, link-bearings}

@@ -25,10 +25,10 @@ use Rattle.register.specs.Table.{moveNumber}
 use Rattle.register.specs.Calls.{moveBook}
 use Rattle.register.proofs.FitParts.{link-open, link-close}
 use Rattle.register.proofs.MoveTable.{MoveDone, move-done}
-use Rattle.upkeep.specs.Own.{Part, theLength, theCounts, aHome, aCrew, aClock, aStable, aStamp, aHead, aLink, aStored, Named, fitPart}
-use Rattle.upkeep.proofs.FitFrame.{LinkKept, Keeps, Same, counts-same, crews-same, clock-same, stable-same, stamp-same, link-stays, stored-same}
-use Rattle.upkeep.proofs.FitKept.{crew-open}
-use Rattle.upkeep.proofs.FitOwnParts.{stable-open, stable-close, head-open, head-close, keeps-part}
+use Rattle.upkeep.specs.Own.{Part, theLength, theCounts, aHome, aCrew, aClock, aStable, aStamp, aHead, aWaiting, aLink, aStored, Named, fitPart}
+use Rattle.upkeep.proofs.FitFrame.{LinkKept, Keeps, Same, counts-same, crews-same, clock-same, stable-same, stamp-same, link-stays, waiting-kept, link-kept, stored-same}
+use Rattle.upkeep.proofs.FitKept.{crew-open, waiting-open}
+use Rattle.upkeep.proofs.FitOwnParts.{stable-open, stable-close, head-open, head-close, waiting-close, keeps-part}
 
 -- the counts stay, and a part that they name and that is fit stays fit
 pub record Leaves (n : Counts) (l m : List ℕ) : Type 0 where
@@ -83,7 +83,9 @@ module _ (n : Counts) (l : List ℕ) (W : Within n) (full : length l ≡ bookWor
       stable-close n after e s (stable-same n l after W e s x y (λ j u v. past j (omega arith) (omega arith)) (stable-open n l e s h))
   set-part (aStamp e s from) k h = le-leb _ _ (stamp-same n l after W e s (k .0) (k .1) (λ j u v. past j (omega arith) (omega arith)) from (k .2) (leb-true _ _ h))
   set-part (aHead s from to) k h = head-close after _ (link s from to (k .0) (k .1) (k .2) .head (head-open l _ h))
-  set-part (aLink s from to) k h = link-close n after s from _ (link s from to (k .0) (k .1) (k .2) .whole (link-open n l s from _ h))
+  set-part (aWaiting s from to) k h =
+      waiting-close n after s from _ (waiting-kept n l after s from _ (link s from to (k .0) (k .1) (k .2)) (waiting-open n l s from _ h))
+  set-part (aLink s from to) k h = link-close n after s from _ (link-kept n l after s from _ (link s from to (k .0) (k .1) (k .2)) (link-open n l s from _ h))
   set-part (aStored e b) k h =
       let a = W .depots in
       let x = W .bearings in

@@ -3,6 +3,8 @@
 use std::error::Error;
 use std::fmt;
 
+use crate::Card;
+
 /// Why a call was refused. A refused call changed no word of the book.
 #[derive(Clone, Copy, Debug, PartialEq, Eq, Hash)]
 pub enum Refusal {
@@ -30,6 +32,8 @@ pub enum Refusal {
     BadCounts = 11,
     /// A move, and some shelf of the new home has not seen all that the crew has: move again after some rounds.
     NotHereYet = 12,
+    /// A length of the card is not finite, above 0 and at most 2,000.
+    BadCard = 14,
     /// The value to write is over [`LAST_DAY`](crate::calendar::LAST_DAY), 146,096.
     BadDate = 16,
 }
@@ -48,6 +52,7 @@ impl Refusal {
         Refusal::ClockAtEnd,
         Refusal::BadCounts,
         Refusal::NotHereYet,
+        Refusal::BadCard,
         Refusal::BadDate,
     ];
 
@@ -81,6 +86,7 @@ impl fmt::Display for Refusal {
             Refusal::ClockAtEnd => "the clock is at its end",
             Refusal::BadCounts => "a count is out of range, or the homes are not as many as the crews",
             Refusal::NotHereYet => "the new home has not seen all that the crew has",
+            Refusal::BadCard => "a length of the card is out of range, or no number",
             Refusal::BadDate => "the day is beyond the calendar",
         })
     }
@@ -89,12 +95,12 @@ impl fmt::Display for Refusal {
 impl Error for Refusal {}
 
 /// What a read found at the crew's home.
-#[derive(Clone, Copy, Debug, PartialEq, Eq, Hash)]
+#[derive(Clone, Copy, Debug, PartialEq)]
 pub enum Reading {
     /// Nobody wrote the bearing, as far as this depot shows.
     Unwritten,
-    /// The value, and the vector of its version: one entry a depot, 0 past the last.
-    Written { value: u32, vector: [u32; 4] },
+    /// The value, its card, and the vector of its version: one entry a depot, 0 past the last.
+    Written { value: u32, card: Card, vector: [u32; 4] },
 }
 
 impl Reading {
@@ -103,6 +109,14 @@ impl Reading {
         match self {
             Reading::Unwritten => None,
             Reading::Written { value, .. } => Some(value),
+        }
+    }
+
+    /// The card, if there is one.
+    pub fn card(self) -> Option<Card> {
+        match self {
+            Reading::Unwritten => None,
+            Reading::Written { card, .. } => Some(card),
         }
     }
 }

@@ -109,6 +109,8 @@ impl Recorder {
                 b'S' => self.words.clear(),
                 b'R' => self.read(book, numbers[0], numbers[1]),
                 b'W' => self.write(book, &numbers),
+                // A list read counts as its reads, in the order of the list.
+                b'L' => numbers[1..].iter().for_each(|&bearing| self.read(book, numbers[0], bearing)),
                 _ => {}
             }
         }

@@ -18,15 +18,19 @@ mod library {
             homes_count: usize,
         ) -> u32;
         pub fn depot_read(book: *mut u32, words: usize, crew: u32, bearing: u32, out: *mut u32, out_count: usize) -> u32;
+        #[allow(clippy::too_many_arguments)]
         pub fn depot_write(
             book: *mut u32,
             words: usize,
             crew: u32,
             bearing: u32,
             value: u32,
+            diameter: u32,
+            width: u32,
             out: *mut u32,
             out_count: usize,
         ) -> u32;
+        pub fn depot_grams(diameter: u32, width: u32, out: *mut u32, out_count: usize) -> u32;
         pub fn depot_tick(book: *mut u32, words: usize, depot: u32, shelf: u32) -> u32;
         pub fn depot_take(book: *mut u32, words: usize, depot: u32, shelf: u32, from: u32) -> u32;
         pub fn depot_refresh(book: *mut u32, words: usize, depot: u32, shelf: u32) -> u32;
@@ -55,8 +59,13 @@ pub fn read(book: &mut [u32], crew: u32, bearing: u32, out: &mut [u32]) -> u32 {
     unsafe { library::depot_read(book.as_mut_ptr(), book.len(), crew, bearing, out.as_mut_ptr(), out.len()) }
 }
 
-pub fn write(book: &mut [u32], crew: u32, bearing: u32, value: u32, out: &mut [u32]) -> u32 {
-    unsafe { library::depot_write(book.as_mut_ptr(), book.len(), crew, bearing, value, out.as_mut_ptr(), out.len()) }
+pub fn write(book: &mut [u32], crew: u32, bearing: u32, value: u32, diameter: u32, width: u32, out: &mut [u32]) -> u32 {
+    let (book, words, room) = (book.as_mut_ptr(), book.len(), out.len());
+    unsafe { library::depot_write(book, words, crew, bearing, value, diameter, width, out.as_mut_ptr(), room) }
+}
+
+pub fn grams(diameter: u32, width: u32, out: &mut [u32]) -> u32 {
+    unsafe { library::depot_grams(diameter, width, out.as_mut_ptr(), out.len()) }
 }
 
 pub fn tick(book: &mut [u32], depot: u32, shelf: u32) -> u32 {

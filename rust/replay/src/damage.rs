@@ -154,7 +154,7 @@ fn calls(random: &mut Random, book: &[u32], kind: usize) -> Vec<Called> {
     events.push(match kind {
         0 => Event::Read { crew: 0, bearing: n.bearings as u32 },
         1 => Event::Take { depot: 0, shelf: 0, from: 0 },
-        2 => Event::Move { crew: 0, depot: n.depots as u32, card: [0, 0] },
+        2 => Event::Move { crew: 0, depot: n.depots as u32 },
         _ => Event::Tick { depot: 0, shelf: n.shelves as u32 },
     });
     if let Event::Write { crew, bearing, card, .. } = events[1] {
