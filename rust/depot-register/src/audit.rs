@@ -17,7 +17,7 @@
 
 use std::fmt;
 
-use crate::{raw, Register, ANSWER_BYTES, RECORD};
+use crate::{raw, Bearing, Card, Crew, Reading, Refusal, Register, Written, ANSWER_BYTES, RECORD};
 
 /// The words of an entry: kind, crew, and a version record with four entries whatever the depots are.
 pub const ENTRY: usize = 2 + RECORD;
@@ -93,6 +93,38 @@ impl Recorder {
         Recorder::default()
     }
 
+    /// A read, as [`Register::read`] does it, recorded if it is done.
+    ///
+    /// ```
+    /// # use depot_register::audit::Recorder;
+    /// # use depot_register::{Bearing, Card, Counts, Crew, Depot, Register};
+    /// # let counts = Counts { depots: 1, shelves: 1, bearings: 1, crews: 1 };
+    /// # let mut register = Register::setup(counts, &[Depot(0)]).unwrap();
+    /// let mut recorder = Recorder::new();
+    /// recorder.read(&mut register, Crew(0), Bearing(0)).unwrap();
+    /// recorder.write(&mut register, Crew(0), Bearing(0), 20, Card { diameter: 1.0, width: 1.0 }).unwrap();
+    /// assert_eq!(recorder.lines(), "R 0 0 -\nW 0 0 20 1065353216 1065353216 0 1 0 0 0\n");
+    /// ```
+    pub fn read(&mut self, register: &mut Register, crew: Crew, bearing: Bearing) -> Result<Reading, Refusal> {
+        let answer = register.read(crew, bearing)?;
+        self.was_read(&register.book, crew.0, bearing.0);
+        Ok(answer)
+    }
+
+    /// A write, as [`Register::write`] does it, recorded if it is done.
+    pub fn write(
+        &mut self,
+        register: &mut Register,
+        crew: Crew,
+        bearing: Bearing,
+        value: u32,
+        card: Card,
+    ) -> Result<Written, Refusal> {
+        let answer = register.write(crew, bearing, value, card)?;
+        self.was_written(&register.book, &[crew.0, bearing.0, value, card.diameter.to_bits(), card.width.to_bits()]);
+        Ok(answer)
+    }
+
     /// The answer to a line of the desk, as [`Register::line`] gives it. A read or a write that is done is recorded; a setup
     /// that is done starts a new history.
     pub fn line(&mut self, register: &mut Register, line: &[u8]) -> Vec<u8> {
@@ -107,10 +139,10 @@ impl Recorder {
             let numbers: Vec<u32> = line.split(|&byte| byte == b' ').skip(1).map(number).collect();
             match line[0] {
                 b'S' => self.words.clear(),
-                b'R' => self.read(book, numbers[0], numbers[1]),
-                b'W' => self.write(book, &numbers),
+                b'R' => self.was_read(book, numbers[0], numbers[1]),
+                b'W' => self.was_written(book, &numbers),
                 // A list read counts as its reads, in the order of the list.
-                b'L' => numbers[1..].iter().for_each(|&bearing| self.read(book, numbers[0], bearing)),
+                b'L' => numbers[1..].iter().for_each(|&bearing| self.was_read(book, numbers[0], bearing)),
                 _ => {}
             }
         }
@@ -118,7 +150,7 @@ impl Recorder {
     }
 
     /// A read that was just done: the version is the one that the crew's home now stores.
-    fn read(&mut self, book: &[u32], crew: u32, bearing: u32) {
+    fn was_read(&mut self, book: &[u32], crew: u32, bearing: u32) {
         let at = 10_596 + 1_440 * home(book, crew) as usize + RECORD * bearing as usize;
         let depots = book[0] as usize;
         self.words.extend([READ, crew, bearing]);
@@ -131,7 +163,7 @@ impl Recorder {
     }
 
     /// A write that was just done: its vector is the one that the crew now has. `numbers` are those of its line.
-    fn write(&mut self, book: &[u32], numbers: &[u32]) {
+    fn was_written(&mut self, book: &[u32], numbers: &[u32]) {
         let crew = numbers[0];
         let at = 20 + 4 * crew as usize;
         self.words.extend([WRITE, crew]);
