@@ -35,10 +35,14 @@ pub fn medians(runs: usize) -> (f64, f64) {
     let mut times = [Vec::new(), Vec::new()];
     for _ in 0..runs {
         let start = Instant::now();
-        (0..20).for_each(|_| drop(black_box(audit(black_box(&words)))));
+        for _ in 0..20 {
+            black_box(audit(black_box(&words)));
+        }
         times[0].push(start.elapsed());
         let start = Instant::now();
-        (0..20).for_each(|_| drop(black_box(straight::audit(black_box(&others)))));
+        for _ in 0..20 {
+            black_box(straight::audit(black_box(&others)));
+        }
         times[1].push(start.elapsed());
     }
     let [library, straight] = times.map(|mut all| {

@@ -3,7 +3,7 @@
 #![cfg(feature = "library")]
 
 use depot_register::audit::{audit, Recorder, Verdict, ENTRY, MOST_ENTRIES, READ, WRITE};
-use depot_register::WORDS;
+use depot_register::{raw, WORDS};
 use replay::random::Random;
 use straight::{READ_ENTRY, WRITE_ENTRY};
 
@@ -43,7 +43,7 @@ fn write_line(crew: usize, bearing: usize, value: usize) -> String {
     format!("W {} {} {} {} 1065353216", crew, bearing, value, 1_065_353_216 + value)
 }
 
-/// What the register did in a random history of so many entries at most.
+/// What the register did in a random history of so many entries at most, crews changing their depots too.
 fn recorded(random: &mut Random, most: usize) -> Recorder {
     let (depots, shelves) = (random.between(1, 4), random.between(1, 3));
     let (bearings, crews) = (random.between(1, 6), random.between(1, 5));
@@ -58,6 +58,10 @@ fn recorded(random: &mut Random, most: usize) -> Recorder {
         }
         let (crew, bearing) = (random.below(crews), random.below(bearings));
         let (depot, shelf, from) = (random.below(depots), random.below(shelves), random.below(depots));
+        if random.percent(4) {
+            raw::move_crew(&mut book, crew as u32, depot as u32);
+            continue;
+        }
         let line = match random.below(20) {
             0..=2 => write_line(crew, bearing, random.below(1_000)),
             3 | 4 => format!("R {} {}", crew, bearing),
