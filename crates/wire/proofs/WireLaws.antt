@@ -8,7 +8,7 @@ use mathlib.Core.Path.{_≡_, refl, sym, _∙_, ap, ap₂}
 use mathlib.Core.Logic.{⊎-elim}
 use mathlib.Core.List.{List, [], _∷_, _++_, append-assoc}
 use lib.ListN.{length, getD, set, take, drop, length-append, List·getD-append}
-use lib.Seq.{sets, getD-append-add, getD-drop, getD-take, take-add, drop-cons}
+use lib.Seq.{sets, getD-append-add, getD-drop, getD-take, take-add, drop-drop, drop-cons}
 use Rattle.loops.proofs.BoolLaws.{eq-or-ne}
 use Rattle.book.specs.Words.{part, put}
 use Rattle.wire.specs.Wire.{byteLimit, halfLimit, wordLimit, halfBytes, halfAt, wordBytes, wordOf, wordAt, joined, Below}
@@ -130,6 +130,20 @@ joined-long (suc n) k g e = length-append (joined n g) (g n) ∙ ap₂ (λ (a b 
   where
     suc-times : (k n : ℕ) → k * n + k ≡ k * suc n
     suc-times k n = omega arith
+
+part-add : (f : List ℕ) (a n m : ℕ) → part f a (n + m) ≡ part f a n ++ part f (a + n) m
+unfolding part
+part-add f a n m = take-add n m (drop a f) ∙ ap (λ (l : List ℕ). take n (drop a f) ++ take m l) (drop-drop n a f)
+
+-- runs of k each that are found one after the other
+pub part-runs : (f : List ℕ) (a k n : ℕ) (g : ℕ → List ℕ) → ((i : ℕ) → i < n → part f (a + k * i) k ≡ g i) → part f a (k * n) ≡ joined n g
+unfolding joined part
+part-runs f a k zero g h = let z : k * 0 ≡ 0 = omega arith in ap (λ (n : ℕ). take n (drop a f)) z
+part-runs f a k (suc n) g h =
+    ap (part f a) (more k n) ∙ part-add f a (k * n) k ∙ ap₂ (λ (x y : List ℕ). x ++ y) (part-runs f a k n g (λ i l. h i (le-step l))) (h n (le-refl _))
+  where
+    more : (k n : ℕ) → k * suc n ≡ k * n + k
+    more k n = omega arith
 
 -- run i stands where the runs before it end
 pub stands-run : (f : List ℕ) (at n : ℕ) (g : ℕ → List ℕ) → Stands f at (joined n g) → (i : ℕ) → i < n → Stands f (at + length (joined i g)) (g i)
