@@ -1,1 +1,3 @@
 pub mod MessageLaws
+pub mod EncodeLaws
+pub mod DecodeLaws
