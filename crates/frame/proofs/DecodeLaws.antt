@@ -18,7 +18,8 @@ use Rattle.book.specs.Layout.{linkRoom, beatKind, copyKind, kindOf}
 use Rattle.fit.specs.Fit.{between, messageFit}
 use Rattle.wire.specs.Wire.{byteLimit, halfBytes, halfAt, joined, Below}
 use Rattle.wire.proofs.WireLaws.{part-four, part-two, half-read, runs-found}
-use Rattle.frame.specs.Frame.{Route, offsetAt, bodyAt, sizeOf, messageBytes, sizeTo, placeOf, whom, headOf, offsetsOf, messagesOf, encodeFrame}
+use Rattle.frame.specs.declared.Route.{Route}
+use Rattle.frame.specs.Frame.{offsetAt, bodyAt, sizeOf, messageBytes, sizeTo, placeOf, whom, headOf, offsetsOf, messagesOf, encodeFrame}
 use Rattle.frame.specs.Frame.{countIn, serialIn, startIn, messageAt, messageRight, headRight, messagesRight, formed}
 use Rattle.frame.specs.Stretch.{Known}
 use Rattle.frame.proofs.MessageLaws.{IsBeat, IsCopied, message-long, kind-read, only-message, fit-kind}
@@ -50,7 +51,7 @@ pub record At (r : Route) (f : List ℕ) (i at : ℕ) : Type 0 where
   pub offset : halfAt f (offsetAt i) ≡ at
   pub there : at < length f
   pub ends : at + sizeOf (r .counts .depots) (getD f at 0) ≤ length f
-  pub fit : messageFit (r .counts) (r .shelf) (r .from) (messageAt r f at) ≡ true
+  pub fit : messageFit (r .counts) (r .shelf .0) (r .from .0) (messageAt r f at) ≡ true
 
 pub message-says : (r : Route) (f : List ℕ) (i at : ℕ) → messageRight r f i at ≡ true → At r f i at
 unfolding messageRight
@@ -82,7 +83,7 @@ formed-says r f h =
 
 module _ (r : Route) (known : Known r) (f : List ℕ) (b : Below byteLimit f) (w : Formed r f) where
   -- its message i
-  pub readAt : ℕ → List ℕ
+  unfoldable pub readAt : ℕ → List ℕ
   readAt i = messageAt r f (startIn (r .counts .depots) f i)
 
   place-start : (i : ℕ) → placeOf (r .counts .depots) (countIn f) readAt i ≡ startIn (r .counts .depots) f i

@@ -17,7 +17,8 @@ use Rattle.book.specs.Layout.{copyKind, beatKind, kindOf}
 use Rattle.fit.specs.Fit.{between}
 use Rattle.wire.specs.Wire.{halfLimit, halfBytes, halfAt, joined}
 use Rattle.wire.proofs.WireLaws.{Stands, stands-all, stands-left, stands-right, stands-run, half-stands, joined-long, joined-same}
-use Rattle.frame.specs.Frame.{Route, offsetAt, bodyAt, sizeOf, messageBytes, sizeTo, placeOf, whom, headOf, offsetsOf, messagesOf, encodeFrame, frameSize}
+use Rattle.frame.specs.declared.Route.{Route}
+use Rattle.frame.specs.Frame.{offsetAt, bodyAt, sizeOf, messageBytes, sizeTo, placeOf, whom, headOf, offsetsOf, messagesOf, encodeFrame, frameSize}
 use Rattle.frame.specs.Frame.{countIn, serialIn, startIn, messageAt, messageRight, headRight, messagesRight, formed, bodyIn, meant, meantBody}
 use Rattle.frame.specs.Stretch.{Known, Sendable}
 use Rattle.frame.proofs.MessageLaws.{IsBeat, IsCopied, by-beat, by-copy, message-long, kind-beat, kind-copy, reads-beat, reads-copy, fit-kind, meant-fit}
@@ -157,7 +158,7 @@ module _ (r : Route) (known : Known r) (serial count : ℕ) (g : ℕ → List �
       ∙ ap (λ (k : ℕ). bodyAt count + sizeTo (r .counts .depots) g i + sizeOf (r .counts .depots) k) (kind-back i h)
       ∙ omega arith
 
-  body-back : bodyIn r (encodeFrame r serial count g) ≡ meantBody r count g
+  pub body-back : bodyIn r (encodeFrame r serial count g) ≡ meantBody r count g
   unfolding bodyIn meantBody
   body-back =
       ap (λ (n : ℕ). joined n (λ i. messageAt r (encodeFrame r serial count g) (startIn (r .counts .depots) (encodeFrame r serial count g) i))) count-back

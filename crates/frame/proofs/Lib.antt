@@ -1,3 +1,5 @@
 pub mod MessageLaws
 pub mod EncodeLaws
 pub mod DecodeLaws
+pub mod Theorems
+pub mod StretchLaws

@@ -20,7 +20,8 @@ use Rattle.register.proofs.FitMessage.{VersionOk, CopyOk, copy-close, copy-mess
 use Rattle.wire.specs.Wire.{byteLimit, wordLimit, wordBytes, wordAt, joined, Below}
 use Rattle.wire.proofs.WireLaws.{Stands, stands-right, stands-run, word-stands, word-read, part-cons, part-runs, joined-long}
 use Rattle.links.specs.Send.{beat}
-use Rattle.frame.specs.Frame.{Route, sizeOf, sentWord, beatBytes, copyBytes, messageBytes, entryAt, copyAt, messageAt, meantEntry, meantCopy, meant}
+use Rattle.frame.specs.declared.Route.{Route}
+use Rattle.frame.specs.Frame.{sizeOf, sentWord, beatBytes, copyBytes, messageBytes, entryAt, copyAt, messageAt, meantEntry, meantCopy, meant}
 use Rattle.frame.specs.Stretch.{Known}
 
 -- a message is a heartbeat, or a copy of a bearing whose number is a byte
@@ -63,7 +64,7 @@ message-long depots m =
     (decided (eqb (kindOf m) beatKind))
 
 -- the entries of a record stand last
-last-four : (p : ℕ → ℕ) (a b c d e o x : ℕ) → x < 4 → getD (a ∷ b ∷ c ∷ d ∷ e ∷ o ∷ p 0 ∷ p 1 ∷ p 2 ∷ p 3 ∷ []) (6 + x) 0 ≡ p x
+pub last-four : (p : ℕ → ℕ) (a b c d e o x : ℕ) → x < 4 → getD (a ∷ b ∷ c ∷ d ∷ e ∷ o ∷ p 0 ∷ p 1 ∷ p 2 ∷ p 3 ∷ []) (6 + x) 0 ≡ p x
 last-four p a b c d e o zero h = refl
 last-four p a b c d e o (suc zero) h = refl
 last-four p a b c d e o (suc (suc zero)) h = refl
@@ -230,14 +231,14 @@ kind-read r f at =
 -- ---- fitness
 
 -- a fit message is a heartbeat or a copy
-pub fit-kind : (r : Route) (m : List ℕ) → r .counts .bearings ≤ 160 → messageFit (r .counts) (r .shelf) (r .from) m ≡ true → IsBeat m ⊎ IsCopied m
+pub fit-kind : (r : Route) (m : List ℕ) → r .counts .bearings ≤ 160 → messageFit (r .counts) (r .shelf .0) (r .from .0) m ≡ true → IsBeat m ⊎ IsCopied m
 fit-kind r m k h =
     ⊎-elim
     (λ (b : (kindOf m ≡ beatKind) × (beatOf m ≤ end)). inl (record { kind = b .0 }))
-    (λ (c : CopyOk (r .counts) (r .shelf) (r .from) m).
+    (λ (c : CopyOk (r .counts) (r .shelf .0) (r .from .0) m).
     let one : bearingOf (recordOf m) ≡ getD m 1 0 = part-at m 1 9 0 (lit< tt) in
     inr (record { kind = c .kind; bearing = omega (arith, c .bearing) }))
-    (message-cases (r .counts) (r .shelf) (r .from) m h)
+    (message-cases (r .counts) (r .shelf .0) (r .from .0) m h)
 
 -- what a frame carries of a fit message is fit
 module _ (r : Route) (m : List ℕ) (k : r .counts .depots ≤ 4) where
@@ -263,30 +264,30 @@ module _ (r : Route) (m : List ℕ) (k : r .counts .depots ≤ 4) where
       there (suc (suc (suc zero))) h = refl
       there (suc (suc (suc (suc j)))) h = absurd (omega arith)
 
-  copy-fit : CopyOk (r .counts) (r .shelf) (r .from) m → CopyOk (r .counts) (r .shelf) (r .from) (meantCopy r m)
+  copy-fit : CopyOk (r .counts) (r .shelf .0) (r .from .0) m → CopyOk (r .counts) (r .shelf .0) (r .from .0) (meantCopy r m)
   unfolding meantCopy
   copy-fit c =
       let v = c .version in
-      let o : originOf (recordOf (meantCopy r m)) ≡ r .from = part-at (meantCopy r m) 1 9 4 (lit< tt) in
-      let below : r .from < r .counts .depots = subst (λ (x : ℕ). x < r .counts .depots) (c .origin) (v .origin) in
+      let o : originOf (recordOf (meantCopy r m)) ≡ r .from .0 = part-at (meantCopy r m) 1 9 4 (lit< tt) in
+      let below : r .from .0 < r .counts .depots = subst (λ (x : ℕ). x < r .counts .depots) (c .origin) (v .origin) in
       record {
         kind = c .kind;
         version = record {
           entries = λ x h. rw (same-entry x h) (v .entries x h);
           origin = rw o below;
-          stamp = rw (o, same-entry (r .from) below) (subst (λ (x : ℕ). 0 < vectorOf (recordOf m) x) (c .origin) (v .stamp));
+          stamp = rw (o, same-entry (r .from .0) below) (subst (λ (x : ℕ). 0 < vectorOf (recordOf m) x) (c .origin) (v .stamp));
         };
         origin = o;
         bearing = rw (same-word 0 (lit< tt)) (c .bearing);
         shelf = rw (same-word 0 (lit< tt)) (c .shelf);
       }
 
-  pub meant-fit : messageFit (r .counts) (r .shelf) (r .from) m ≡ true → messageFit (r .counts) (r .shelf) (r .from) (meant r m) ≡ true
+  pub meant-fit : messageFit (r .counts) (r .shelf .0) (r .from .0) m ≡ true → messageFit (r .counts) (r .shelf .0) (r .from .0) (meant r m) ≡ true
   unfolding meant
   meant-fit h =
       ⊎-elim
       (λ (b : (kindOf m ≡ beatKind) × (beatOf m ≤ end)).
-      rw (by-beat (beat (beatOf m)) (meantCopy r m) [] (b .0)) (beat-message (r .counts) (r .shelf) (r .from) (beat (beatOf m)) refl (b .1)))
-      (λ (c : CopyOk (r .counts) (r .shelf) (r .from) m).
+      rw (by-beat (beat (beatOf m)) (meantCopy r m) [] (b .0)) (beat-message (r .counts) (r .shelf .0) (r .from .0) (beat (beatOf m)) refl (b .1)))
+      (λ (c : CopyOk (r .counts) (r .shelf .0) (r .from .0) m).
       rw (not-beat (beat (beatOf m)) (meantCopy r m) [] (c .kind)) (copy-message _ _ _ _ (copy-close _ _ _ _ (copy-fit c))))
-      (message-cases (r .counts) (r .shelf) (r .from) m h)
+      (message-cases (r .counts) (r .shelf .0) (r .from .0) m h)

@@ -7,18 +7,12 @@ use mathlib.Core.List.{List, [], _∷_, _++_}
 use lib.Dec.{eqb, ltb, leb}
 use lib.ListN.{length, getD}
 use Rattle.loops.specs.Loops.{every, pick}
-use Rattle.book.specs.declared.parts.Counts.{Counts}
-use Rattle.book.specs.Layout.{linkRoom, linkOf, copyKind, beatKind, kindOf, beatOf}
+use Rattle.book.specs.Words.{part}
+use Rattle.book.specs.Layout.{linkRoom, slotWords, linkOf, copyKind, beatKind, kindOf, beatOf}
 use Rattle.fit.specs.Fit.{between, messageFit}
 use Rattle.links.specs.Send.{beat}
 use Rattle.wire.specs.Wire.{halfLimit, halfBytes, halfAt, wordBytes, wordAt, joined}
-
--- the link that a frame is for, and the counts of its register
-pub record Route : Type 0 where
-  pub counts : Counts
-  pub shelf : ℕ
-  pub from : ℕ
-  pub to : ℕ
+use Rattle.frame.specs.declared.Route.{Route}
 
 -- ---- places
 
@@ -62,7 +56,7 @@ placeOf depots count g i = bodyAt count + sizeTo depots g i
 
 -- for whom: the number of depots, and the link
 unfoldable pub whom : Route → ℕ
-whom r = 64 * (r .counts .depots - 1) + linkOf (r .shelf) (r .from) (r .to)
+whom r = 64 * (r .counts .depots - 1) + linkOf (r .shelf .0) (r .from .0) (r .to .0)
 
 unfoldable pub headOf : Route → ℕ → ℕ → List ℕ
 headOf r serial count = whom r ∷ count ∷ halfBytes serial
@@ -106,7 +100,7 @@ copyAt r f at =
     ∷ wordAt f (at + 2)
     ∷ wordAt f (at + 6)
     ∷ wordAt f (at + 10)
-    ∷ r .from
+    ∷ r .from .0
     ∷ entryAt (r .counts .depots) f at 0
     ∷ entryAt (r .counts .depots) f at 1
     ∷ entryAt (r .counts .depots) f at 2
@@ -121,7 +115,7 @@ unfoldable pub messageRight : Route → List ℕ → ℕ → ℕ → Bool
 messageRight r f i at =
     eqb (halfAt f (offsetAt i)) at
     && (ltb at (length f)
-    && (leb (at + sizeOf (r .counts .depots) (getD f at 0)) (length f) && messageFit (r .counts) (r .shelf) (r .from) (messageAt r f at)))
+    && (leb (at + sizeOf (r .counts .depots) (getD f at 0)) (length f) && messageFit (r .counts) (r .shelf .0) (r .from .0) (messageAt r f at)))
 
 -- the header is there and for this link
 unfoldable pub headRight : Route → List ℕ → Bool
@@ -178,7 +172,7 @@ meantCopy r m =
     ∷ getD m 2 0
     ∷ getD m 3 0
     ∷ getD m 4 0
-    ∷ r .from
+    ∷ r .from .0
     ∷ meantEntry (r .counts .depots) m 0
     ∷ meantEntry (r .counts .depots) m 1
     ∷ meantEntry (r .counts .depots) m 2
@@ -191,3 +185,7 @@ meant r m = pick (eqb (kindOf m) beatKind) (beat (beatOf m)) (meantCopy r m)
 -- the words of so many of them, one after the other
 unfoldable pub meantBody : Route → ℕ → (ℕ → List ℕ) → List ℕ
 meantBody r count g = joined count (λ i. meant r (g i))
+
+-- message i of a list of their words
+abbrev pub messageIn : List ℕ → ℕ → List ℕ
+messageIn body i = part body (slotWords * i) slotWords

@@ -10,22 +10,23 @@ use Rattle.book.specs.Layout.{linkRoom, bearingRoom}
 use Rattle.order.specs.Record.{mostDepots}
 use Rattle.fit.specs.Fit.{messageFit}
 use Rattle.wire.specs.Wire.{halfLimit, wordLimit, Below}
-use Rattle.frame.specs.Frame.{Route, Reading, bad, old, gap, accepted, encodeFrame, decodeFrame, meantBody}
+use Rattle.frame.specs.declared.Route.{Route}
+use Rattle.frame.specs.Frame.{Reading, bad, old, gap, accepted, encodeFrame, decodeFrame, meantBody}
 
 -- the numbers of a link, in a register whose counts are in range
 pub record Known (r : Route) : Type 0 where
   pub depot : 1 ≤ r .counts .depots
   pub depots : r .counts .depots ≤ mostDepots
   pub bearings : r .counts .bearings ≤ bearingRoom
-  pub shelf : r .shelf < 4
-  pub from : r .from < 4
-  pub to : r .to < 4
+  pub shelf : r .shelf .0 < 4
+  pub from : r .from .0 < 4
+  pub to : r .to .0 < 4
 
 -- what may be sent in one frame: 1 to 16 messages of words that are fit for the link
 pub record Sendable (r : Route) (count : ℕ) (g : ℕ → List ℕ) : Type 0 where
   pub some : 1 ≤ count
   pub few : count ≤ linkRoom
-  pub fit : (i : ℕ) → i < count → messageFit (r .counts) (r .shelf) (r .from) (g i) ≡ true
+  pub fit : (i : ℕ) → i < count → messageFit (r .counts) (r .shelf .0) (r .from .0) (g i) ≡ true
   pub words : (i : ℕ) → i < count → Below wordLimit (g i)
 
 -- the frames of a link from some moment on: frame i has the i-th serial after the first, around the wrap, and so many messages

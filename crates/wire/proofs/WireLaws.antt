@@ -189,3 +189,16 @@ put-run o at i g {b} {b′} {v} {place} p e r q =
     ∙ ap₂ (λ (x : List ℕ) (k : ℕ). put x k v) p e
     ∙ put-append o at (joined i g) v
     ∙ ap (put o at) (ap (λ (x : List ℕ). joined i g ++ x) r ∙ sym (joined-suc i g) ∙ ap (λ (k : ℕ). joined k g) (sym (add-one i)))
+
+-- ---- small numbers
+
+pub below-none : (limit : ℕ) → 0 < limit → Below limit []
+below-none limit h = record { at = λ i. h }
+
+module _ (limit a : ℕ) (l : List ℕ) (p : a < limit) (h : Below limit l) where
+  below-at : (i : ℕ) → getD (a ∷ l) i 0 < limit
+  below-at zero = p
+  below-at (suc i) = h .at i
+
+  pub below-more : Below limit (a ∷ l)
+  below-more = record { at = below-at }
