@@ -3,3 +3,4 @@ pub mod EncodeLaws
 pub mod DecodeLaws
 pub mod Theorems
 pub mod StretchLaws
+pub mod PromiseLaws
