@@ -176,7 +176,7 @@ reads-back r serial count g known numbered ok =
 
 -- ---- an accepted frame is the only one
 
-message-ten : (r : Route) (f : List ℕ) (at : ℕ) → length (messageAt r f at) ≡ 10
+pub message-ten : (r : Route) (f : List ℕ) (at : ℕ) → length (messageAt r f at) ≡ 10
 unfolding messageAt copyAt
 message-ten r f at =
     ⊎-elim

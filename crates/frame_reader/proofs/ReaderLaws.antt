@@ -60,21 +60,21 @@ module _ (r : Route) (f : List ℕ) where
     head-other h = sym (and-next _ (le-leb _ _ a) ∙ and-stop _ (ne-eqb _ _ h))
 
     module _ (b : getD f 0 0 ≡ whom r) where
-      open : headRight r f ≡ between 1 (countIn f) 16 && leb (bodyAt (countIn f)) (length f)
+      opened : headRight r f ≡ between 1 (countIn f) 16 && leb (bodyAt (countIn f)) (length f)
       unfolding headRight
-      open = and-next _ (le-leb _ _ a) ∙ and-next _ (eq-eqb _ _ b)
+      opened = and-next _ (le-leb _ _ a) ∙ and-next _ (eq-eqb _ _ b)
 
       pub head-none : countIn f ≡ 0 → false ≡ headRight r f
       unfolding between
-      head-none h = sym (open ∙ and-stop _ (and-stop _ (lt-leb 1 (countIn f) (omega arith))))
+      head-none h = sym (opened ∙ and-stop _ (and-stop _ (lt-leb 1 (countIn f) (omega arith))))
 
       pub head-many : 16 < countIn f → false ≡ headRight r f
       unfolding between
-      head-many h = sym (open ∙ and-stop _ (and-next _ (le-leb 1 (countIn f) (omega arith)) ∙ lt-leb _ _ h))
+      head-many h = sym (opened ∙ and-stop _ (and-next _ (le-leb 1 (countIn f) (omega arith)) ∙ lt-leb _ _ h))
 
       pub head-last : 1 ≤ countIn f → countIn f ≤ 16 → leb (bodyAt (countIn f)) (length f) ≡ headRight r f
       unfolding between
-      head-last h k = sym (open ∙ and-next _ (and-next _ (le-leb 1 (countIn f) h) ∙ le-leb _ _ k))
+      head-last h k = sym (opened ∙ and-next _ (and-next _ (le-leb 1 (countIn f) h) ∙ le-leb _ _ k))
 
 -- ---- a message
 
@@ -97,7 +97,7 @@ module _ (r : Route) (f : List ℕ) (i at : ℕ) where
       right-strange h =
           let no-beat : (kindOf (messageAt r f at) ≡ beatKind → ⊥) = λ e. omega (arith, size-beat (r .counts .depots) (getD f at 0) (sym (kind-read r f at) ∙ e)) in
           let no-copy : (kindOf (messageAt r f at) ≡ copyKind → ⊥) = λ e. omega (arith, size-copy (r .counts .depots) (getD f at 0) (sym (kind-read r f at) ∙ e)) in
-          sym (within ∙ ap (λ (x : Bool). leb (at + sizeOf (r .counts .depots) (getD f at 0)) (length f) && x) (sym (message-none (r .counts) (r .shelf .0) (r .from .0) (messageAt r f at) no-beat no-copy)) ∙ and-false _)
+          sym (within ∙ ap (λ (x : Bool). leb (at + sizeOf (r .counts .depots) (getD f at 0)) (length f) && x) (sym (message-none (r .counts) (r .shelf .0) (r .from .0) (messageAt r f at) no-beat no-copy)) ∙ and-false (leb (at + sizeOf (r .counts .depots) (getD f at 0)) (length f)))
 
       pub right-cut : length f < at + sizeOf (r .counts .depots) (getD f at 0) → false ≡ messageRight r f i at
       right-cut h = sym (within ∙ and-stop _ (lt-leb _ _ h))
@@ -125,7 +125,7 @@ right-ends r f h e = ap (λ (a : ℕ). eqb a (length f)) e ∙ sym (and-next _ h
 
 pub all-right : (r : Route) (f : List ℕ) {n : ℕ} → n ≡ countIn f → every n (λ i. messageRight r f i (startIn (r .counts .depots) f i)) ≡ messagesRight r f
 unfolding messagesRight
-all-right r f e = ap (λ (n : ℕ). every n _) e
+all-right r f e = ap (λ (n : ℕ). every n (λ i. messageRight r f i (startIn (r .counts .depots) f i))) e
 
 pub formed-head : (r : Route) (f : List ℕ) {b : Bool} → headRight r f ≡ true → b ≡ messagesRight r f && eqb (startIn (r .counts .depots) f (countIn f)) (length f) → b ≡ formed r f
 unfolding formed

@@ -53,11 +53,11 @@ word-runs m at i = ap (λ (k : ℕ). at + k) (sym (joined-long i 4 _ (λ j. refl
 
 -- head, offsets and messages, one behind the other
 pub frame-put :
-    (r : Route) (serial count : ℕ) (g : ℕ → List ℕ) {o a b c : List ℕ} →
+    (r : Route) (serial count : ℕ) (g : ℕ → List ℕ) (o : List ℕ) {a b c : List ℕ} →
     a ≡ put o 0 (headOf r serial count) → b ≡ put a 4 (offsetsOf (r .counts .depots) count g) → c ≡ put b (bodyAt count) (messagesOf (r .counts .depots) count g) →
     c ≡ put o 0 (encodeFrame r serial count g)
 unfolding encodeFrame offsetsOf
-frame-put r serial count g {o} {a} {b} {c} p q s =
+frame-put r serial count g o {a} {b} {c} p q s =
     let h : List ℕ = headOf r serial count in
     let f : List ℕ = joined count (λ i. halfBytes (placeOf (r .counts .depots) count g i)) in
     let four : 4 ≡ 0 + length h = sym (zero-add _ ∙ head-long r serial count) in

@@ -1,34 +1,28 @@
+-- `frame_reader::entry_at` meets its contract.
+-- Assumes nothing.
+use mathlib.Core.Path.{_∙_, sym}
+use borrow.Author.Tests.{lt-ltb, le-ltb}
+use Rattle.loops.proofs.BoolLaws.{pick-true, pick-false}
+use Rattle.frame.specs.Frame.{entryAt}
 use borrow.Author.Needs.{needs}
 use Rattle.frame_reader.proofs.entry_at.Statement.{statement}
 use Rattle.frame_reader.proofs.entry_at.Tie as tie
-use Rattle.frame_reader.proofs.entry_at.Reads as reads
-use Rattle.frame_reader.proofs.entry_at.Lts as lts
-use Rattle.wire.proofs.word_at.Reads as word-at-reads
 
--- src/lib.rt:53:27
-add-word-at : tie.Need-add-word-at
-add-word-at c = search needs
-
--- src/lib.rt:53:37
-mul-word-at : tie.Need-mul-word-at
-mul-word-at c = search needs
-
--- src/lib.rt:53:27
-add-word-at-2 : tie.Need-add-word-at-2
-add-word-at-2 c = search needs
-
--- src/lib.rt:53:9
-word-at-requires : tie.Need-word-at-requires
-word-at-requires c κs = search needs
-
--- src/lib.rt:53:9
 returns : tie.Need-returns
-returns c = ?
+unfolding entryAt
+returns c = c .word-at .ensures ∙ sym (pick-true _ _ (lt-ltb _ _ (c .before .if1 .taken)))
 
--- src/lib.rt:48:1
 returns-2 : tie.Need-returns-2
-returns-2 c = ?
+unfolding entryAt
+returns-2 c = sym (pick-false _ _ (le-ltb _ _ (c .if1 .left)))
 
 pub entry-at-spec : {M : Type 1} → statement M
 entry-at-spec =
-    tie.close (tie.spec add-word-at mul-word-at add-word-at-2 word-at-requires returns returns-2)
+    tie.close
+    (tie.spec
+    (λ c. search needs)
+    (λ c. search needs)
+    (λ c. search needs)
+    (λ c κs. search needs)
+    returns
+    returns-2)

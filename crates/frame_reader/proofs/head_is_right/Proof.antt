@@ -1,67 +1,46 @@
+-- `frame_reader::head_is_right` meets its contract: each test, in its order.
+-- Assumes nothing.
+use Prim.Native.Nat.{ℕ, _+_, _*_}
+use native.Mathlib.Omega.{arith}
+use mathlib.Core.Path.{_∙_, sym, ap}
+use denote.Ref.{now}
+use lib.Dec.{leb}
+use lib.ListN.{length}
+use Rattle.frame_reader.proofs.ReaderLaws.{head-short, head-other, head-none, head-many, head-last}
 use borrow.Author.Needs.{needs}
 use Rattle.frame_reader.proofs.head_is_right.Statement.{statement}
 use Rattle.frame_reader.proofs.head_is_right.Tie as tie
-use Rattle.frame_reader.proofs.head_is_right.Reads as reads
-use Rattle.frame_reader.proofs.head_is_right.Lts as lts
-use Rattle.frame.proofs.whom_of.Reads as whom-of-reads
-use Rattle.wire.proofs.wide_byte.Reads as wide-byte-reads
 
--- src/lib.rt:140:9
 returns : tie.Need-returns
-returns c = ?
+returns c = head-short _ _ (c .if1 .taken)
 
--- src/lib.rt:142:8
-shared-slice-read-if2 : tie.Need-shared-slice-read-if2
-shared-slice-read-if2 c = search needs
-
--- src/lib.rt:142:16
-whom-of-requires : tie.Need-whom-of-requires
-whom-of-requires c κs = search needs
-
--- src/lib.rt:143:9
 returns-2 : tie.Need-returns-2
-returns-2 c = ?
+returns-2 c = head-other _ _ (c .before .before .before .if1 .left) (λ e. c .if2 .taken (e ∙ sym (c .before .whom-of .ensures)))
 
--- src/lib.rt:145:27
-shared-slice-read-wide-byte : tie.Need-shared-slice-read-wide-byte
-shared-slice-read-wide-byte c = search needs
-
--- src/lib.rt:145:9
-wide-byte-requires : tie.Need-wide-byte-requires
-wide-byte-requires c κs = search needs
-
--- src/lib.rt:147:9
 returns-3 : tie.Need-returns-3
-returns-3 c = ?
+returns-3 c = head-none _ _ (c .before .before .before .before .before .before .if1 .left) (c .before .before .before .if2 .left ∙ c .before .before .before .before .whom-of .ensures) (sym (c .before .wide-byte .ensures) ∙ c .if3 .taken)
 
--- src/lib.rt:150:9
 returns-4 : tie.Need-returns-4
-returns-4 c = ?
+returns-4 c = head-many _ _ (c .before .before .before .before .before .before .before .if1 .left) (c .before .before .before .before .if2 .left ∙ c .before .before .before .before .before .whom-of .ensures) (omega (arith, c .if4 .taken, c .before .before .wide-byte .ensures))
 
--- src/lib.rt:152:13
-mul-result : tie.Need-mul-result
-mul-result c = search needs
-
--- src/lib.rt:152:5
-add-result : tie.Need-add-result
-add-result c = search needs
-
--- src/lib.rt:135:1
 returns-5 : tie.Need-returns-5
-returns-5 c = ?
+returns-5 c =
+    let f = now (c .before .before .before .before .before .before .before .before .before .args .f) in
+    ap (λ (k : ℕ). leb (4 + 2 * k) (length f)) (c .before .before .wide-byte .ensures)
+    ∙ head-last _ _ (c .before .before .before .before .before .before .before .if1 .left) (c .before .before .before .before .if2 .left ∙ c .before .before .before .before .before .whom-of .ensures) (omega (arith, c .before .if3 .left, c .before .before .wide-byte .ensures)) (omega (arith, c .if4 .left, c .before .before .wide-byte .ensures))
 
 pub head-is-right-spec : {M : Type 1} → statement M
 head-is-right-spec =
     tie.close
     (tie.spec
     returns
-    shared-slice-read-if2
-    whom-of-requires
+    (λ c. search needs)
+    (λ c κs. search needs)
     returns-2
-    shared-slice-read-wide-byte
-    wide-byte-requires
+    (λ c. search needs)
+    (λ c κs. search needs)
     returns-3
     returns-4
-    mul-result
-    add-result
+    (λ c. search needs)
+    (λ c. search needs)
     returns-5)

@@ -1,90 +1,66 @@
+-- `frame_reader::message_is_right` meets its contract: each test, in its order.
+-- Assumes nothing.
+use Prim.Native.Nat.{_+_, _≤_, _<_}
+use native.Mathlib.Omega.{arith}
+use mathlib.Core.Path.{_≡_, _∙_, sym, ap}
+use denote.Ref.{now}
+use lib.ListN.{length, getD}
+use Rattle.fit.specs.Fit.{messageFit}
+use Rattle.frame.specs.Frame.{sizeOf}
+use Rattle.frame_reader.proofs.ReaderLaws.{right-not, right-past, right-strange, right-cut, right-fit}
 use borrow.Author.Needs.{needs}
 use Rattle.frame_reader.proofs.message_is_right.Statement.{statement}
 use Rattle.frame_reader.proofs.message_is_right.Tie as tie
-use Rattle.frame_reader.proofs.message_is_right.Reads as reads
-use Rattle.frame_reader.proofs.message_is_right.Lts as lts
-use Rattle.frame.proofs.size_of.Reads as size-of-reads
-use Rattle.frame_reader.proofs.message_at.Reads as message-at-reads
-use Rattle.frame_reader.proofs.word_of_byte.Reads as word-of-byte-reads
-use Rattle.versions.proofs.link.message_fits.Reads as message-fits-reads
-use Rattle.wire.proofs.half_at.Reads as half-at-reads
 
--- src/lib.rt:97:27
-mul-half-at : tie.Need-mul-half-at
-mul-half-at c = search needs
+-- the size that was found
+size-is : (c : tie.After-size-of) → let args = c .before .before .before .before .before .before .before .before .args in c .size-of .result ≡ sizeOf (args .way .counts .depots) (getD (now (args .f)) (args .at) 0)
+size-is c = c .size-of .ensures ∙ ap (sizeOf (c .before .before .before .before .before .before .before .before .args .way .counts .depots)) (c .before .word-of-byte .ensures)
 
--- src/lib.rt:97:19
-add-half-at : tie.Need-add-half-at
-add-half-at c = search needs
-
--- src/lib.rt:97:8
-half-at-requires : tie.Need-half-at-requires
-half-at-requires c κs = search needs
-
--- src/lib.rt:98:9
 returns : tie.Need-returns
-returns c = ?
+returns c = right-not _ _ _ _ (λ e. c .if1 .taken (c .before .half-at .ensures ∙ e))
 
--- src/lib.rt:101:9
 returns-2 : tie.Need-returns-2
-returns-2 c = ?
+returns-2 c = right-past _ _ _ _ (sym (c .before .before .half-at .ensures) ∙ c .before .if1 .left) (c .if2 .taken)
 
--- src/lib.rt:104:47
-shared-slice-read-word-of-byte : tie.Need-shared-slice-read-word-of-byte
-shared-slice-read-word-of-byte c = search needs
-
--- src/lib.rt:104:34
-word-of-byte-requires : tie.Need-word-of-byte-requires
-word-of-byte-requires c κs = search needs
-
--- src/lib.rt:104:9
-size-of-requires : tie.Need-size-of-requires
-size-of-requires c κs = search needs
-
--- src/lib.rt:106:9
 returns-3 : tie.Need-returns-3
-returns-3 c = ?
+returns-3 c =
+    right-strange _ _ _ _ (sym (c .before .before .before .before .before .before .before .half-at .ensures) ∙ c .before .before .before .before .before .before .if1 .left) (omega (arith, c .before .before .before .before .before .if2 .left)) (sym (size-is (c .before)) ∙ c .if3 .taken)
 
--- src/lib.rt:108:8
-sub-if4 : tie.Need-sub-if4
-sub-if4 c = search needs
+-- the last byte is there
+ends : (c : tie.Else4) → let args = c .before .before .before .before .before .before .before .before .before .before .args in args .at + sizeOf (args .way .counts .depots) (getD (now (args .f)) (args .at) 0) ≤ length (now (args .f))
+ends c = omega (arith, c .if4 .left, c .before .before .before .before .before .before .if2 .left, size-is (c .before .before))
 
--- src/lib.rt:109:9
 returns-4 : tie.Need-returns-4
-returns-4 c = ?
+returns-4 c =
+    right-cut _ _ _ _ (sym (c .before .before .before .before .before .before .before .before .half-at .ensures) ∙ c .before .before .before .before .before .before .before .if1 .left) (omega (arith, c .before .before .before .before .before .before .if2 .left)) (omega (arith, c .if4 .taken, c .before .before .before .before .before .before .if2 .left, size-is (c .before .before)))
 
--- src/lib.rt:111:13
 message-at-requires : tie.Need-message-at-requires
-message-at-requires c κs = ?
+message-at-requires c κs =
+    record { ready = c .before .before .before .before .before .before .before .before .before .before .pre .0; begins = omega (arith, c .before .before .before .before .before .before .if2 .left); known = omega (arith, c .before .if3 .left, size-is (c .before .before)); ends = ends c }
 
--- src/lib.rt:112:18
-slice-aggregate-message-fits : tie.Need-slice-aggregate-message-fits
-slice-aggregate-message-fits c = search needs
-
--- src/lib.rt:112:5
-message-fits-requires : tie.Need-message-fits-requires
-message-fits-requires c κs = search needs
-
--- src/lib.rt:93:1
 returns-5 : tie.Need-returns-5
-returns-5 c = ?
+returns-5 c =
+    let args = c .before .before .before .before .before .before .before .before .before .before .before .before .before .args in
+    c .message-fits .ensures
+    ∙ ap (messageFit (args .way .counts) (args .way .shelf .0) (args .way .from .0)) (c .before .before .message-at .ensures)
+    ∙ right-fit _ _ _ _ (sym (c .before .before .before .before .before .before .before .before .before .before .before .half-at .ensures) ∙ c .before .before .before .before .before .before .before .before .before .before .if1 .left) (omega (arith, c .before .before .before .before .before .before .before .before .before .if2 .left)) (ends (c .before .before .before))
 
 pub message-is-right-spec : {M : Type 1} → statement M
 message-is-right-spec =
     tie.close
     (tie.spec
-    mul-half-at
-    add-half-at
-    half-at-requires
+    (λ c. search needs)
+    (λ c. search needs)
+    (λ c κs. search needs)
     returns
     returns-2
-    shared-slice-read-word-of-byte
-    word-of-byte-requires
-    size-of-requires
+    (λ c. search needs)
+    (λ c κs. search needs)
+    (λ c κs. search needs)
     returns-3
-    sub-if4
+    (λ c. search needs)
     returns-4
     message-at-requires
-    slice-aggregate-message-fits
-    message-fits-requires
+    (λ c. search needs)
+    (λ c κs. search needs)
     returns-5)

@@ -1,84 +1,71 @@
+-- `frame_writer::put_offsets` meets its contract. The loop's invariant: the offsets passed stand in the buffer, and the next message goes to `at`.
+-- Assumes nothing.
+use Prim.Native.Nat.{ℕ, _+_, _≤_, _-_}
+use native.Mathlib.Omega.{arith}
+use native.Mathlib.Nat.{le-antisymm}
+use mathlib.Core.Path.{_≡_, refl, _∙_, ap}
+use mathlib.Core.List.{List}
+use denote.Ref.{now}
+use lib.ListN.{length}
+use Rattle.book.specs.Words.{put}
+use Rattle.book.specs.Layout.{kindOf, slot}
+use Rattle.book.proofs.WordsLaws.{length-put}
+use Rattle.wire.specs.Wire.{halfBytes, joined}
+use Rattle.wire.proofs.WireLaws.{put-none, put-run}
+use Rattle.frame.specs.Frame.{sizeOf, placeOf, offsetsOf}
+use Rattle.frame_writer.proofs.WriterLaws.{kind-there, place-none, place-more, place-most, offset-runs}
+use borrow.Author.Needs.{needs}
 use Rattle.frame_writer.proofs.put_offsets.Statement.{statement}
 use Rattle.frame_writer.proofs.put_offsets.Tie as tie
-use Rattle.frame_writer.proofs.put_offsets.Reads as reads
-use Rattle.frame_writer.proofs.put_offsets.Lts as lts
-use Rattle.book.proofs.layout.Link.slot_at.Reads as slot-at-reads
-use Rattle.frame.proofs.size_of.Reads as size-of-reads
-use Rattle.wire.proofs.put_half.Reads as put-half-reads
 
 abbrev Inv-loop : tie.InvT-loop
-Inv-loop out₀ book q taken count depots at₀ i₀ out at i = ?
+Inv-loop out₀ book q taken count depots at₀ i₀ out at i =
+    (i ≤ count)
+    × (at ≡ placeOf depots count (λ j. slot book (q .0) (taken + j)) i)
+    × (length out ≡ length out₀)
+    × (out ≡ put out₀ 4 (joined i (λ k. halfBytes (placeOf depots count (λ j. slot book (q .0) (taken + j)) k))))
 
 abbrev μ-loop : tie.MeasureT-loop
-μ-loop out₀ book q taken count depots at₀ i₀ out at i = ?
+μ-loop out₀ book q taken count depots at₀ i₀ out at i = count - i
 
--- src/lib.rt:108:26
-mul-at : tie.Need-mul-at Inv-loop μ-loop
-mul-at c = ?
+size-is :
+    (c : tie.After-size-of Inv-loop μ-loop) →
+    let args = c .before .before .before .before .before .before .before .before .before .before .before .args in c .size-of .result ≡ sizeOf (args .depots) (kindOf (slot (now (args .book)) (args .q .0) (args .taken + c .before .before .before .before .before .before .before .before .loop .i)))
+size-is c = c .size-of .ensures ∙ ap (sizeOf (c .before .before .before .before .before .before .before .before .before .before .before .args .depots)) (kind-there _ _ _ (c .before .before .slot-at .ensures))
 
--- src/lib.rt:108:18
-add-at : tie.Need-add-at Inv-loop μ-loop
-add-at c = ?
-
--- src/lib.rt:110:5
 loop-holds : tie.Need-loop-holds Inv-loop μ-loop
-loop-holds c = ?
+loop-holds c = (search needs, place-none _ _ _, refl, put-none _ 4 _)
 
--- src/lib.rt:111:31
-mul-put-half : tie.Need-mul-put-half Inv-loop μ-loop
-mul-put-half c = ?
-
--- src/lib.rt:111:23
-add-put-half : tie.Need-add-put-half Inv-loop μ-loop
-add-put-half c = ?
-
--- src/lib.rt:111:9
 put-half-requires : tie.Need-put-half-requires Inv-loop μ-loop
-put-half-requires c κs = ?
+put-half-requires c κs = omega (arith, c .before .before .loop .inv .2, c .before .loop-test .taken, c .before .before .before .before .before .pre .4)
 
--- src/lib.rt:112:46
-add-slot-at : tie.Need-add-slot-at Inv-loop μ-loop
-add-slot-at c = ?
-
--- src/lib.rt:112:36
-slot-at-requires : tie.Need-slot-at-requires Inv-loop μ-loop
-slot-at-requires c κs = ?
-
--- src/lib.rt:112:31
-mul-size-of : tie.Need-mul-size-of Inv-loop μ-loop
-mul-size-of c = ?
-
--- src/lib.rt:112:31
-shared-slice-read-size-of : tie.Need-shared-slice-read-size-of Inv-loop μ-loop
-shared-slice-read-size-of c = ?
-
--- src/lib.rt:112:15
-size-of-requires : tie.Need-size-of-requires Inv-loop μ-loop
-size-of-requires c κs = ?
-
--- src/lib.rt:112:9
 add-at-2 : tie.Need-add-at-2 Inv-loop μ-loop
-add-at-2 c = ?
+add-at-2 c =
+    let args = c .before .before .before .before .before .before .before .before .before .before .before .args in
+    let loop = c .before .before .before .before .before .before .before .before .loop in
+    let g : ℕ → List ℕ = λ j. slot (now (args .book)) (args .q .0) (args .taken + j) in
+    let next : loop .at + c .size-of .result ≡ placeOf (args .depots) (args .count) g (loop .i + 1) = place-more _ _ g _ (loop .inv .1) (size-is c) in
+    omega (arith, next, place-most (args .depots) (args .count) g (loop .i + 1) (c .before .before .before .before .before .before .before .before .before .before .before .pre .3), c .before .before .before .before .before .before .before .before .before .before .before .pre .2, c .before .before .before .before .before .before .before .loop-test .taken)
 
--- src/lib.rt:113:9
-add-i : tie.Need-add-i Inv-loop μ-loop
-add-i c = ?
-
--- src/lib.rt:110:5
-loop-less : tie.Need-loop-less Inv-loop μ-loop
-loop-less c = ?
-
--- src/lib.rt:110:5
 loop-again : tie.Need-loop-again Inv-loop μ-loop
-loop-again c = ?
+loop-again c =
+    let args = c .before .before .before .before .before .before .before .before .before .before .before .args in
+    let loop = c .before .before .before .before .before .before .before .before .loop in
+    let g : ℕ → List ℕ = λ j. slot (now (args .book)) (args .q .0) (args .taken + j) in (
+      search needs,
+      place-more _ _ g _ (loop .inv .1) (size-is c),
+      ap length (c .before .before .before .before .before .put-half .ensures) ∙ length-put _ _ _ ∙ loop .inv .2,
+      put-run _ 4 (loop .i) (λ k. halfBytes (placeOf (args .depots) (args .count) g k)) (loop .inv .3) (offset-runs (args .depots) (args .count) g (loop .i)) (ap halfBytes (loop .inv .1)) (c .before .before .before .before .before .put-half .ensures),
+    )
 
--- src/lib.rt:104:1
-same-length : tie.Need-same-length Inv-loop μ-loop
-same-length c = ?
-
--- src/lib.rt:104:1
 returns : tie.Need-returns Inv-loop μ-loop
-returns c = ?
+unfolding offsetsOf
+returns c =
+    let args = c .before .before .before .before .args in
+    let loop = c .before .loop in
+    loop .inv .3
+    ∙ ap (λ (n : ℕ). put (now (args .out)) 4 (joined n (λ k. halfBytes (placeOf (args .depots) (args .count) (λ j. slot (now (args .book)) (args .q .0) (args .taken + j)) k))))
+    (le-antisymm (loop .inv .0) (c .loop-test .left))
 
 pub put-offsets-spec : {M : Type 1} → statement M
 put-offsets-spec =
@@ -86,20 +73,20 @@ put-offsets-spec =
     (tie.spec
     Inv-loop
     μ-loop
-    mul-at
-    add-at
+    (λ c. search needs)
+    (λ c. search needs)
     loop-holds
-    mul-put-half
-    add-put-half
+    (λ c. search needs)
+    (λ c. search needs)
     put-half-requires
-    add-slot-at
-    slot-at-requires
-    mul-size-of
-    shared-slice-read-size-of
-    size-of-requires
+    (λ c. search needs)
+    (λ c κs. search needs)
+    (λ c. search needs)
+    (λ c. search needs)
+    (λ c κs. search needs)
     add-at-2
-    add-i
-    loop-less
+    (λ c. search needs)
+    (λ c. search needs)
     loop-again
-    same-length
+    (λ c. search needs)
     returns)

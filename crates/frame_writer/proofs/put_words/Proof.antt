@@ -1,59 +1,48 @@
+-- `frame_writer::put_words` meets its contract. The loop's invariant: the words passed stand in the buffer.
+-- Assumes nothing.
+use Prim.Native.Nat.{ℕ, _+_, _≤_, _-_}
+use native.Mathlib.Omega.{arith}
+use native.Mathlib.Nat.{le-antisymm}
+use mathlib.Core.Path.{_≡_, refl, _∙_, ap}
+use denote.Ref.{now}
+use lib.ListN.{length}
+use Rattle.book.specs.Words.{put}
+use Rattle.book.proofs.WordsLaws.{length-put}
+use Rattle.wire.specs.Wire.{wordBytes, joined}
+use Rattle.wire.proofs.WireLaws.{put-none, put-run}
+use Rattle.frame.specs.Frame.{sentWord}
+use Rattle.frame_writer.proofs.WriterLaws.{word-runs}
+use borrow.Author.Needs.{needs}
 use Rattle.frame_writer.proofs.put_words.Statement.{statement}
 use Rattle.frame_writer.proofs.put_words.Tie as tie
-use Rattle.frame_writer.proofs.put_words.Reads as reads
-use Rattle.frame_writer.proofs.put_words.Lts as lts
-use Rattle.frame_writer.proofs.sent_word.Reads as sent-word-reads
-use Rattle.wire.proofs.put_word.Reads as put-word-reads
 
 abbrev Inv-loop : tie.InvT-loop
-Inv-loop out₀ at m depots count i₀ out i = ?
+Inv-loop out₀ at m depots count i₀ out i =
+    (i ≤ 3 + depots) × (length out ≡ length out₀) × (out ≡ put out₀ at (joined i (λ j. wordBytes (sentWord m j))))
 
 abbrev μ-loop : tie.MeasureT-loop
-μ-loop out₀ at m depots count i₀ out i = ?
+μ-loop out₀ at m depots count i₀ out i = count - i
 
--- src/lib.rt:62:17
-add-count : tie.Need-add-count Inv-loop μ-loop
-add-count c = ?
-
--- src/lib.rt:64:5
 loop-holds : tie.Need-loop-holds Inv-loop μ-loop
-loop-holds c = ?
+loop-holds c = (search needs, refl, put-none _ _ _)
 
--- src/lib.rt:65:13
-sent-word-requires : tie.Need-sent-word-requires Inv-loop μ-loop
-sent-word-requires c κs = ?
-
--- src/lib.rt:66:28
-mul-put-word : tie.Need-mul-put-word Inv-loop μ-loop
-mul-put-word c = ?
-
--- src/lib.rt:66:23
-add-put-word : tie.Need-add-put-word Inv-loop μ-loop
-add-put-word c = ?
-
--- src/lib.rt:66:9
 put-word-requires : tie.Need-put-word-requires Inv-loop μ-loop
-put-word-requires c κs = ?
+put-word-requires c κs = omega (arith, c .before .before .before .loop .inv .1, c .before .before .loop-test .taken, c .before .before .before .before .before .before .pre .2)
 
--- src/lib.rt:67:9
-add-i : tie.Need-add-i Inv-loop μ-loop
-add-i c = ?
-
--- src/lib.rt:64:5
-loop-less : tie.Need-loop-less Inv-loop μ-loop
-loop-less c = ?
-
--- src/lib.rt:64:5
 loop-again : tie.Need-loop-again Inv-loop μ-loop
-loop-again c = ?
+loop-again c =
+    let args = c .before .before .before .before .before .before .before .before .before .args in
+    let loop = c .before .before .before .before .before .before .loop in (
+      search needs,
+      ap length (c .before .before .put-word .ensures) ∙ length-put _ _ _ ∙ loop .inv .1,
+      put-run _ (args .at) (loop .i) (λ j. wordBytes (sentWord (now (args .m)) j)) (loop .inv .2) (word-runs (now (args .m)) (args .at) (loop .i)) (ap wordBytes (c .before .before .before .before .sent-word .ensures)) (c .before .before .put-word .ensures),
+    )
 
--- src/lib.rt:58:1
-same-length : tie.Need-same-length Inv-loop μ-loop
-same-length c = ?
-
--- src/lib.rt:58:1
 returns : tie.Need-returns Inv-loop μ-loop
-returns c = ?
+returns c =
+    let args = c .before .before .before .before .args in
+    let loop = c .before .loop in
+    loop .inv .2 ∙ ap (λ (n : ℕ). put (now (args .out)) (args .at) (joined n (λ j. wordBytes (sentWord (now (args .m)) j)))) (le-antisymm (loop .inv .0) (c .loop-test .left))
 
 pub put-words-spec : {M : Type 1} → statement M
 put-words-spec =
@@ -61,14 +50,14 @@ put-words-spec =
     (tie.spec
     Inv-loop
     μ-loop
-    add-count
+    (λ c. search needs)
     loop-holds
-    sent-word-requires
-    mul-put-word
-    add-put-word
+    (λ c κs. search needs)
+    (λ c. search needs)
+    (λ c. search needs)
     put-word-requires
-    add-i
-    loop-less
+    (λ c. search needs)
+    (λ c. search needs)
     loop-again
-    same-length
+    (λ c. search needs)
     returns)

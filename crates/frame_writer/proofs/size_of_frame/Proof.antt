@@ -1,67 +1,46 @@
+-- `frame_writer::size_of_frame` meets its contract. The loop's invariant: the next message goes to `at`.
+-- Assumes nothing.
+use Prim.Native.Nat.{ℕ, _+_, _≤_, _-_}
+use native.Mathlib.Omega.{arith}
+use native.Mathlib.Nat.{le-antisymm}
+use mathlib.Core.Path.{_≡_, _∙_, ap}
+use denote.Ref.{now}
+use Rattle.book.specs.Layout.{kindOf, slot}
+use Rattle.frame.specs.Frame.{sizeOf, placeOf}
+use Rattle.frame_writer.proofs.WriterLaws.{kind-there, place-none, place-more, place-most}
+use borrow.Author.Needs.{needs}
 use Rattle.frame_writer.proofs.size_of_frame.Statement.{statement}
 use Rattle.frame_writer.proofs.size_of_frame.Tie as tie
-use Rattle.frame_writer.proofs.size_of_frame.Reads as reads
-use Rattle.frame_writer.proofs.size_of_frame.Lts as lts
-use Rattle.book.proofs.layout.Link.slot_at.Reads as slot-at-reads
-use Rattle.frame.proofs.size_of.Reads as size-of-reads
 
 abbrev Inv-loop : tie.InvT-loop
-Inv-loop book q taken count depots at₀ i₀ at i = ?
+Inv-loop book q taken count depots at₀ i₀ at i = (i ≤ count) × (at ≡ placeOf depots count (λ j. slot book (q .0) (taken + j)) i)
 
 abbrev μ-loop : tie.MeasureT-loop
-μ-loop book q taken count depots at₀ i₀ at i = ?
+μ-loop book q taken count depots at₀ i₀ at i = count - i
 
--- src/lib.rt:94:26
-mul-at : tie.Need-mul-at Inv-loop μ-loop
-mul-at c = ?
+size-is :
+    (c : tie.After-size-of Inv-loop μ-loop) →
+    let args = c .before .before .before .before .before .before .args in c .size-of .result ≡ sizeOf (args .depots) (kindOf (slot (now (args .book)) (args .q .0) (args .taken + c .before .before .before .before .loop .i)))
+size-is c = c .size-of .ensures ∙ ap (sizeOf (c .before .before .before .before .before .before .args .depots)) (kind-there _ _ _ (c .before .before .slot-at .ensures))
 
--- src/lib.rt:94:18
-add-at : tie.Need-add-at Inv-loop μ-loop
-add-at c = ?
-
--- src/lib.rt:96:5
 loop-holds : tie.Need-loop-holds Inv-loop μ-loop
-loop-holds c = ?
+loop-holds c = (search needs, place-none _ _ _)
 
--- src/lib.rt:97:46
-add-slot-at : tie.Need-add-slot-at Inv-loop μ-loop
-add-slot-at c = ?
-
--- src/lib.rt:97:36
-slot-at-requires : tie.Need-slot-at-requires Inv-loop μ-loop
-slot-at-requires c κs = ?
-
--- src/lib.rt:97:31
-mul-size-of : tie.Need-mul-size-of Inv-loop μ-loop
-mul-size-of c = ?
-
--- src/lib.rt:97:31
-shared-slice-read-size-of : tie.Need-shared-slice-read-size-of Inv-loop μ-loop
-shared-slice-read-size-of c = ?
-
--- src/lib.rt:97:15
-size-of-requires : tie.Need-size-of-requires Inv-loop μ-loop
-size-of-requires c κs = ?
-
--- src/lib.rt:97:9
 add-at-2 : tie.Need-add-at-2 Inv-loop μ-loop
-add-at-2 c = ?
+add-at-2 c =
+    let args = c .before .before .before .before .before .before .args in
+    let loop = c .before .before .before .before .loop in
+    let g : ℕ → mathlib.Core.List.List ℕ = λ j. slot (now (args .book)) (args .q .0) (args .taken + j) in
+    let next : loop .at + c .size-of .result ≡ placeOf (args .depots) (args .count) g (loop .i + 1) = place-more _ _ g _ (loop .inv .1) (size-is c) in
+    omega (arith, next, place-most (args .depots) (args .count) g (loop .i + 1) (c .before .before .before .before .before .before .pre .3), c .before .before .before .before .before .before .pre .2, c .before .before .before .loop-test .taken)
 
--- src/lib.rt:98:9
-add-i : tie.Need-add-i Inv-loop μ-loop
-add-i c = ?
-
--- src/lib.rt:96:5
-loop-less : tie.Need-loop-less Inv-loop μ-loop
-loop-less c = ?
-
--- src/lib.rt:96:5
 loop-again : tie.Need-loop-again Inv-loop μ-loop
-loop-again c = ?
+loop-again c = (search needs, place-more _ _ _ _ (c .before .before .before .before .loop .inv .1) (size-is c))
 
--- src/lib.rt:90:1
 returns : tie.Need-returns Inv-loop μ-loop
-returns c = ?
+returns c =
+    let args = c .before .before .before .args in
+    c .before .loop .inv .1 ∙ ap (placeOf (args .depots) (args .count) (λ j. slot (now (args .book)) (args .q .0) (args .taken + j))) (le-antisymm (c .before .loop .inv .0) (c .loop-test .left))
 
 pub size-of-frame-spec : {M : Type 1} → statement M
 size-of-frame-spec =
@@ -69,16 +48,16 @@ size-of-frame-spec =
     (tie.spec
     Inv-loop
     μ-loop
-    mul-at
-    add-at
+    (λ c. search needs)
+    (λ c. search needs)
     loop-holds
-    add-slot-at
-    slot-at-requires
-    mul-size-of
-    shared-slice-read-size-of
-    size-of-requires
+    (λ c. search needs)
+    (λ c κs. search needs)
+    (λ c. search needs)
+    (λ c. search needs)
+    (λ c κs. search needs)
     add-at-2
-    add-i
-    loop-less
+    (λ c. search needs)
+    (λ c. search needs)
     loop-again
     returns)
