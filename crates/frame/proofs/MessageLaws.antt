@@ -10,7 +10,7 @@ use lib.Dec.{eqb, ltb, lit<, lit≤}
 use lib.ListN.{length, getD}
 use borrow.Author.Tests.{eq-eqb, ne-eqb, ltb-true, lt-ltb, le-ltb, eqb-true, eqb-false}
 use Rattle.loops.specs.Loops.{pick}
-use Rattle.loops.proofs.BoolLaws.{decided, pick-true, pick-false}
+use Rattle.loops.proofs.BoolLaws.{decided, eq-or-ne, pick-true, pick-false}
 use Rattle.order.specs.Record.{bearingOf, originOf, vectorOf}
 use Rattle.book.specs.Words.{part}
 use Rattle.book.specs.Layout.{end, copyKind, beatKind, kindOf, beatOf, recordOf}
@@ -45,6 +45,26 @@ module _ {ℓ} {A : Type ℓ} {k : ℕ} (x y z : A) where
   not-beat e = pick-false _ _ (ne-eqb k beatKind (λ b. omega arith))
 
 -- ---- how many bytes
+
+pub size-beat : (depots kind : ℕ) → kind ≡ beatKind → sizeOf depots kind ≡ 5
+unfolding sizeOf
+size-beat depots kind e = by-beat _ _ 0 e
+
+-- a kind that is neither takes no bytes
+size-none : (depots kind : ℕ) → (kind ≡ beatKind → ⊥) → (kind ≡ copyKind → ⊥) → sizeOf depots kind ≡ 0
+unfolding sizeOf
+size-none depots kind b c = pick-false _ _ (ne-eqb _ _ b) ∙ pick-false _ _ (ne-eqb _ _ c)
+
+pub size-copy : (depots kind : ℕ) → kind ≡ copyKind → sizeOf depots kind ≡ 14 + 4 * depots
+unfolding sizeOf
+size-copy depots kind e = by-copy _ _ _ e
+
+pub size-other : (depots kind : ℕ) → (kind ≡ beatKind → ⊥) → 0 < sizeOf depots kind → sizeOf depots kind ≡ 14 + 4 * depots
+size-other depots kind b h =
+    ⊎-elim
+    (λ (c : kind ≡ copyKind). size-copy depots kind c)
+    (λ (c : kind ≡ copyKind → ⊥). absurd (omega (arith, size-none depots kind b c)))
+    (eq-or-ne kind copyKind)
 
 words-long : (depots : ℕ) (m : List ℕ) (i : ℕ) → length (joined i (λ j. wordBytes (sentWord m j))) ≡ 4 * i
 unfolding wordBytes

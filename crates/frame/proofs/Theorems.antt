@@ -218,7 +218,7 @@ module _ (r : Route) (f : List ℕ) (at : ℕ) where
       (decided (eqb (getD f at 0) beatKind))
 
 -- its words are words
-half-small : (f : List ℕ) (at : ℕ) → Below byteLimit f → halfAt f at < halfLimit
+pub half-small : (f : List ℕ) (at : ℕ) → Below byteLimit f → halfAt f at < halfLimit
 unfolding halfAt
 half-small f at b = omega (arith, b .at at, b .at (at + 1))
 

@@ -19,33 +19,11 @@ use Rattle.wire.specs.Wire.{halfLimit, halfAt}
 use Rattle.frame.specs.declared.Route.{Route}
 use Rattle.frame.specs.Frame.{offsetAt, bodyAt, sizeOf, whom, countIn, startIn, messageAt, messageRight, headRight, messagesRight, formed, behind, isOld, isExpected}
 use Rattle.frame.specs.Promises.{Ready}
-use Rattle.frame.proofs.MessageLaws.{IsBeat, IsCopied, by-beat, by-copy, kind-read, fit-kind}
+use Rattle.frame.proofs.MessageLaws.{IsBeat, IsCopied, size-beat, size-copy, kind-read, fit-kind}
 use Rattle.frame.proofs.DecodeLaws.{Formed, formed-says}
 use Rattle.frame.proofs.PromiseLaws.{ready-known}
 use Rattle.frame.proofs.Theorems.{behind-one}
 use Rattle.frame_reader.specs.Asks.{There}
-
--- ---- sizes
-
-pub size-beat : (depots kind : ℕ) → kind ≡ beatKind → sizeOf depots kind ≡ 5
-unfolding sizeOf
-size-beat depots kind e = by-beat _ _ 0 e
-
--- a kind that is neither takes no bytes
-size-none : (depots kind : ℕ) → (kind ≡ beatKind → ⊥) → (kind ≡ copyKind → ⊥) → sizeOf depots kind ≡ 0
-unfolding sizeOf
-size-none depots kind b c = pick-false _ _ (ne-eqb _ _ b) ∙ pick-false _ _ (ne-eqb _ _ c)
-
-pub size-copy : (depots kind : ℕ) → kind ≡ copyKind → sizeOf depots kind ≡ 14 + 4 * depots
-unfolding sizeOf
-size-copy depots kind e = by-copy _ _ _ e
-
-pub size-other : (depots kind : ℕ) → (kind ≡ beatKind → ⊥) → 0 < sizeOf depots kind → sizeOf depots kind ≡ 14 + 4 * depots
-size-other depots kind b h =
-    ⊎-elim
-    (λ (c : kind ≡ copyKind). size-copy depots kind c)
-    (λ (c : kind ≡ copyKind → ⊥). absurd (omega (arith, size-none depots kind b c)))
-    (eq-or-ne kind copyKind)
 
 -- ---- the header
 

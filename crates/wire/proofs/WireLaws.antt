@@ -176,6 +176,10 @@ unfolding put
 put-append o at [] v = ap (λ (n : ℕ). sets o n v) (omega arith)
 put-append o at (a ∷ u) v = ap (λ (n : ℕ). sets (sets (set o at a) (suc at) u) n v) (omega arith) ∙ put-append (set o at a) (suc at) u v
 
+pub put-cons : (o : List ℕ) (at a : ℕ) (v : List ℕ) → put (set o at a) (at + 1) v ≡ put o at (a ∷ v)
+unfolding put
+put-cons o at a v = rw add-one
+
 pub put-none : (o : List ℕ) (at : ℕ) (g : ℕ → List ℕ) → o ≡ put o at (joined 0 g)
 unfolding put joined
 put-none o at g = refl

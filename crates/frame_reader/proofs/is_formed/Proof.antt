@@ -1,43 +1,36 @@
+-- `frame_reader::is_formed` meets its contract: the header, then the messages.
+-- Assumes nothing.
+use native.Mathlib.Omega.{arith}
+use denote.Ref.{now}
+use Rattle.loops.proofs.BoolLaws.{test-passed, test-failed}
+use Rattle.frame.proofs.DecodeLaws.{Head, head-says}
+use Rattle.frame_reader.proofs.ReaderLaws.{formed-head, formed-not}
 use borrow.Author.Needs.{needs}
 use Rattle.frame_reader.proofs.is_formed.Statement.{statement}
 use Rattle.frame_reader.proofs.is_formed.Tie as tie
-use Rattle.frame_reader.proofs.is_formed.Reads as reads
-use Rattle.frame_reader.proofs.is_formed.Lts as lts
-use Rattle.frame_reader.proofs.head_is_right.Reads as head-is-right-reads
-use Rattle.frame_reader.proofs.messages_are_right.Reads as messages-are-right-reads
-use Rattle.wire.proofs.wide_byte.Reads as wide-byte-reads
 
--- src/lib.rt:160:9
-head-is-right-requires : tie.Need-head-is-right-requires
-head-is-right-requires c κs = search needs
-
--- src/lib.rt:161:9
 returns : tie.Need-returns
-returns c = ?
+returns c = formed-not _ _ (test-failed (c .before .head-is-right .ensures) (c .if1 .taken))
 
--- src/lib.rt:163:27
+head : (c : tie.Else1) → Head (c .before .before .before .args .way) (now (c .before .before .before .args .f))
+head c = head-says _ _ (test-passed (c .before .head-is-right .ensures) (c .if1 .left))
+
 shared-slice-read-wide-byte : tie.Need-shared-slice-read-wide-byte
-shared-slice-read-wide-byte c = ?
+shared-slice-read-wide-byte c = omega (arith, head (c .before) .four)
 
--- src/lib.rt:163:9
-wide-byte-requires : tie.Need-wide-byte-requires
-wide-byte-requires c κs = search needs
-
--- src/lib.rt:164:5
 messages-are-right-requires : tie.Need-messages-are-right-requires
-messages-are-right-requires c κs = ?
+messages-are-right-requires c κs = (c .before .before .before .before .before .pre, c .wide-byte .ensures, omega (arith, c .wide-byte .ensures, head (c .before .before) .offsets))
 
--- src/lib.rt:156:1
 returns-2 : tie.Need-returns-2
-returns-2 c = ?
+returns-2 c = formed-head _ _ (test-passed (c .before .before .before .before .head-is-right .ensures) (c .before .before .before .if1 .left)) (c .messages-are-right .ensures)
 
 pub is-formed-spec : {M : Type 1} → statement M
 is-formed-spec =
     tie.close
     (tie.spec
-    head-is-right-requires
+    (λ c κs. search needs)
     returns
     shared-slice-read-wide-byte
-    wide-byte-requires
+    (λ c κs. search needs)
     messages-are-right-requires
     returns-2)

@@ -10,8 +10,7 @@ use Rattle.loops.proofs.BoolLaws.{pick-false}
 use Rattle.book.specs.Layout.{beatKind}
 use Rattle.links.specs.Send.{beat}
 use Rattle.frame.specs.Frame.{messageAt}
-use Rattle.frame.proofs.MessageLaws.{by-beat}
-use Rattle.frame_reader.proofs.ReaderLaws.{size-beat, size-other}
+use Rattle.frame.proofs.MessageLaws.{by-beat, size-beat, size-other}
 use borrow.Author.Needs.{needs}
 use Rattle.frame_reader.proofs.message_at.Statement.{statement}
 use Rattle.frame_reader.proofs.message_at.Tie as tie

@@ -1,107 +1,70 @@
+-- `frame_writer::put_message` meets its contract: by the kind.
+-- Assumes nothing.
+use native.Mathlib.Omega.{arith}
+use mathlib.Core.Path.{_∙_, ap, refl}
+use lib.ListN.{length, length-set}
+use denote.Ref.{now}
+use Rattle.book.specs.Layout.{kindOf}
+use Rattle.book.proofs.WordsLaws.{length-put}
+use Rattle.frame.proofs.MessageLaws.{size-beat, size-copy}
+use Rattle.frame_writer.proofs.WriterLaws.{beat-put, copy-put, none-put}
 use borrow.Author.Needs.{needs}
 use Rattle.frame_writer.proofs.put_message.Statement.{statement}
 use Rattle.frame_writer.proofs.put_message.Tie as tie
-use Rattle.frame_writer.proofs.put_message.Reads as reads
-use Rattle.frame_writer.proofs.put_message.Lts as lts
-use Rattle.frame_writer.proofs.put_words.Reads as put-words-reads
-use Rattle.wire.proofs.low.Reads as low-reads
-use Rattle.wire.proofs.put_word.Reads as put-word-reads
 
--- src/lib.rt:76:16
-shared-slice-read-kind : tie.Need-shared-slice-read-kind
-shared-slice-read-kind c = search needs
-
--- src/lib.rt:78:19
-low-requires : tie.Need-low-requires
-low-requires c κs = search needs
-
--- src/lib.rt:78:9
 slice-write-out : tie.Need-slice-write-out
-slice-write-out c = ?
+slice-write-out c = let args = c .before .before .before .before .before .args in omega (arith, c .before .before .before .before .before .pre .2, size-beat (args .depots) (kindOf (now (args .m))) (c .before .if1 .taken))
 
--- src/lib.rt:79:23
-add-put-word : tie.Need-add-put-word
-add-put-word c = search needs
-
--- src/lib.rt:79:31
-shared-slice-read-put-word : tie.Need-shared-slice-read-put-word
-shared-slice-read-put-word c = search needs
-
--- src/lib.rt:79:9
 put-word-requires : tie.Need-put-word-requires
-put-word-requires c κs = ?
+put-word-requires c κs =
+    let args = c .before .before .before .before .before .before .before .args in simp length-set (omega (arith, c .before .before .before .before .before .before .before .pre .2, size-beat (args .depots) (kindOf (now (args .m))) (c .before .before .before .if1 .taken)))
 
--- src/lib.rt:80:9
 same-length : tie.Need-same-length
-same-length c = ?
+same-length c = ap length (c .before .before .put-word .ensures) ∙ length-put _ _ _ ∙ simp length-set
 
--- src/lib.rt:80:9
 returns : tie.Need-returns
-returns c = ?
+returns c = beat-put _ _ _ _ (c .before .before .before .before .before .before .if1 .taken) (c .before .before .before .before .before .low .ensures) (c .before .before .put-word .ensures)
 
--- src/lib.rt:83:19
-low-requires-2 : tie.Need-low-requires-2
-low-requires-2 c κs = search needs
-
--- src/lib.rt:83:9
 slice-write-out-2 : tie.Need-slice-write-out-2
-slice-write-out-2 c = ?
+slice-write-out-2 c = let args = c .before .before .before .before .before .before .args in omega (arith, c .before .before .before .before .before .before .pre .2, size-copy (args .depots) (kindOf (now (args .m))) (c .before .if2 .taken))
 
--- src/lib.rt:84:27
-shared-slice-read-low : tie.Need-shared-slice-read-low
-shared-slice-read-low c = search needs
-
--- src/lib.rt:84:23
-low-requires-3 : tie.Need-low-requires-3
-low-requires-3 c κs = search needs
-
--- src/lib.rt:84:13
-add-out : tie.Need-add-out
-add-out c = search needs
-
--- src/lib.rt:84:9
 slice-write-out-3 : tie.Need-slice-write-out-3
-slice-write-out-3 c = ?
+slice-write-out-3 c =
+    let args = c .before .before .before .before .before .before .before .before .args in simp length-set (omega (arith, c .before .before .before .before .before .before .before .before .pre .2, size-copy (args .depots) (kindOf (now (args .m))) (c .before .before .before .if2 .taken)))
 
--- src/lib.rt:85:24
-add-put-words : tie.Need-add-put-words
-add-put-words c = search needs
-
--- src/lib.rt:85:9
 put-words-requires : tie.Need-put-words-requires
-put-words-requires c κs = ?
+put-words-requires c κs =
+    let args = c .before .before .before .before .before .before .before .before .before .args in
+    (c .before .before .before .before .before .before .before .before .before .pre .0, c .before .before .before .before .before .before .before .before .before .pre .1, simp length-set (omega (arith, c .before .before .before .before .before .before .before .before .before .pre .2, size-copy (args .depots) (kindOf (now (args .m))) (c .before .before .before .before .if2 .taken))))
 
--- src/lib.rt:72:1
 same-length-2 : tie.Need-same-length-2
-same-length-2 c = ?
+same-length-2 c = ap length (c .before .before .put-words .ensures) ∙ length-put _ _ _ ∙ simp length-set
 
--- src/lib.rt:72:1
 returns-2 : tie.Need-returns-2
-returns-2 c = ?
+returns-2 c = copy-put _ _ _ _ (c .before .before .before .before .before .before .before .if2 .taken) (c .before .before .before .before .before .before .low2 .ensures) (c .before .before .before .before .low3 .ensures) (c .before .before .put-words .ensures)
 
--- src/lib.rt:72:1
 returns-3 : tie.Need-returns-3
-returns-3 c = ?
+returns-3 c = none-put _ _ _ _ (c .before .if1 .left) (c .if2 .left)
 
 pub put-message-spec : {M : Type 1} → statement M
 put-message-spec =
     tie.close
     (tie.spec
-    shared-slice-read-kind
-    low-requires
+    (λ c. search needs)
+    (λ c κs. search needs)
     slice-write-out
-    add-put-word
-    shared-slice-read-put-word
+    (λ c. search needs)
+    (λ c. search needs)
     put-word-requires
     same-length
     returns
-    low-requires-2
+    (λ c κs. search needs)
     slice-write-out-2
-    shared-slice-read-low
-    low-requires-3
-    add-out
+    (λ c. search needs)
+    (λ c κs. search needs)
+    (λ c. search needs)
     slice-write-out-3
-    add-put-words
+    (λ c. search needs)
     put-words-requires
     same-length-2
     returns-2
