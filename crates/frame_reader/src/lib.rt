@@ -226,7 +226,17 @@ fn read_at(
         return FrameAnswer::Refused(FrameRefusal::Link(Refusal::SameDepot));
     }
     let n = counts_of(book);
-    read_on(f, Route { counts: n, shelf: s, from: from, to: d }, expected, out)
+    read_on(
+        f,
+        Route {
+            counts: n,
+            shelf: s,
+            from: from,
+            to: d,
+        },
+        expected,
+        out,
+    )
 }
 
 // Refuses, in this order: BAD BOOK, BAD DEPOT (either), BAD SHELF, SAME DEPOT, BAD FRAME, OLD, GAP, NO ROOM.

@@ -209,7 +209,12 @@ fn write_at(
     if out.len() < size {
         return FrameAnswer::Refused(FrameRefusal::NoRoom);
     }
-    let way = Route { counts: n, shelf: s, from: from, to: d };
+    let way = Route {
+        counts: n,
+        shelf: s,
+        from: from,
+        to: d,
+    };
     put_frame(out, book, way, q, taken, some, serial);
     FrameAnswer::Done(size)
 }

@@ -28,9 +28,11 @@ copy-at-requires : tie.Need-copy-at-requires
 copy-at-requires c κs =
     let pre = c .before .before .before .before .pre in (
       pre .ready,
-      omega
-      (arith, pre .ends,
-      size-other (c .before .before .before .before .args .way .counts .depots) (getD (now (c .before .before .before .before .args .f)) (c .before .before .before .before .args .at) 0) (λ e. c .if1 .left (c .before .word-of-byte .ensures ∙ e)) (pre .known)),
+      omega (
+        arith,
+        pre .ends,
+        size-other (c .before .before .before .before .args .way .counts .depots) (getD (now (c .before .before .before .before .args .f)) (c .before .before .before .before .args .at) 0) (λ e. c .if1 .left (c .before .word-of-byte .ensures ∙ e)) (pre .known),
+      ),
     )
 
 returns-2 : tie.Need-returns-2
