@@ -4,3 +4,7 @@ pub mod DecodeLaws
 pub mod Theorems
 pub mod StretchLaws
 pub mod PromiseLaws
+pub mod TakenLaws
+pub mod Unique
+pub mod Worked
+pub mod Carried

@@ -262,7 +262,7 @@ fit-kind r m k h =
 
 -- what a frame carries of a fit message is fit
 module _ (r : Route) (m : List ℕ) (k : r .counts .depots ≤ 4) where
-  same-entry : (x : ℕ) → x < r .counts .depots → vectorOf (recordOf (meantCopy r m)) x ≡ vectorOf (recordOf m) x
+  pub same-entry : (x : ℕ) → x < r .counts .depots → vectorOf (recordOf (meantCopy r m)) x ≡ vectorOf (recordOf m) x
   unfolding meantCopy meantEntry
   same-entry x h =
       let e : 1 + (5 + x) ≡ 6 + x = omega arith in

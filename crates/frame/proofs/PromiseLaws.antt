@@ -31,7 +31,7 @@ use Rattle.frame.specs.Stretch.{Known}
 -- ---- refused, and done
 
 -- no refusal has the number of what is done
-counts : (x : FrameRefusal) → eqb (frameNumber x) 0 ≡ false
+pub counts : (x : FrameRefusal) → eqb (frameNumber x) 0 ≡ false
 unfolding frameNumber
 counts (Link r) = refusal-counts r
 counts NoRoom = refl
@@ -124,7 +124,7 @@ module _ (l : List ℕ) (d s from count room : ℕ) where
   writer-bad h = three-bad (baseFit l) (leb (countsOf l .depots) d) (leb (countsOf l .depots) from) (leb (countsOf l .shelves) s) _ _ _ _ h
 
   module _ (b : baseFit l ≡ true) (hd : d < countsOf l .depots) (ho : from < countsOf l .depots) (hs : s < countsOf l .shelves) where
-    read-link : linkRead l d s from ≡ eqb d from || linkFit (countsOf l) l s from (linkOf s from d)
+    pub read-link : linkRead l d s from ≡ eqb d from || linkFit (countsOf l) l s from (linkOf s from d)
     unfolding linkRead
     read-link = and-next _ b ∙ or-next _ (lt-leb _ _ hd) ∙ or-next _ (lt-leb _ _ ho) ∙ or-next _ (lt-leb _ _ hs)
 
