@@ -4,7 +4,8 @@
  * The library keeps nothing between calls, allocates nothing and calls nothing of yours.
  *
  * Every call on a book but depot_is_fit and depot_line answers with a number of the table below. A refusal, any number but
- * 0, changes no word of the book and of `out`. The calendar, at the end, needs no book and has a table of its own.
+ * 0, changes no word of the book and of `out`. The calendar, at the end, needs no book and has a table of its own. One number
+ * is for all: DEPOT_NO_ROOM, where `out` is too short for the answer. It is checked first of all.
  *
  * A length that is wrong is an answer, not a crash. What C cannot tell is yours to keep: a pointer points to as many
  * elements as its length says (it may be null where the length is 0), and the buffers of one call do not overlap. The
@@ -21,18 +22,21 @@ extern "C" {
 #endif
 
 /* The version of the register. This is its one place: the scripts read it here, and the gate holds rust/ and CHANGELOG.md to it. */
-#define DEPOT_REGISTER_VERSION "0.2.0"
+#define DEPOT_REGISTER_VERSION "0.3.0"
 
 #define DEPOT_BOOK_WORDS 16384 /* words of a book */
 #define DEPOT_RECORD_WORDS 9   /* words of a version record */
-#define DEPOT_READ_WORDS 6     /* room that depot_read's answer takes in `out` */
+#define DEPOT_READ_WORDS 8     /* room that depot_read's answer takes in `out` */
 #define DEPOT_WRITE_WORDS 2    /* room that depot_write's answer takes in `out` */
+#define DEPOT_WHO_WORDS 2      /* room that depot_who_has's answer takes in `out` */
+#define DEPOT_GRAMS_WORDS 2    /* room that depot_grams' answer takes in `out` */
 #define DEPOT_NUMBER_WORDS 1   /* room that depot_day_number's answer takes in `out` */
 #define DEPOT_DATE_WORDS 3     /* room that depot_date_of's answer takes in `out` */
 #define DEPOT_NEXT_WORDS 4     /* room that depot_next_date's answer takes in `out` */
 #define DEPOT_LAST_DAY 146096  /* the day number of 31 December 2399, the last that can be written */
 #define DEPOT_LINE_BYTES 120   /* the longest line that is not a BAD LINE, its line feed not counted */
-#define DEPOT_ANSWER_BYTES 64  /* room that every answer line has, its line feed counted */
+#define DEPOT_ANSWER_BYTES 80  /* room that every answer line has, its line feed counted */
+#define DEPOT_NO_ROOM 100      /* the answer where `out` has fewer elements than the call's answer takes; nothing is done */
 
 /* The answers. Each call checks in the order that stands with it, and the first that holds is the answer. */
 enum depot_answer {
@@ -49,7 +53,10 @@ enum depot_answer {
     DEPOT_LINK_FULL = 9,     /* a write or a tick, and some link out has no room */
     DEPOT_CLOCK_AT_END = 10, /* a write or a tick, and the clock is 2,147,483,647 */
     DEPOT_BAD_COUNTS = 11,   /* a setup, and a count is out of range or the homes are not as many as the crews */
+    DEPOT_NOT_HERE_YET = 12, /* a move, and for some depot other than the new home the crew's entry is above the lowest stamp
+                              * that any shelf of the new home has seen from it */
     DEPOT_BAD_LINE = 13,     /* depot_line only */
+    DEPOT_BAD_CARD = 14,     /* a write, or the grams, and a length is not finite, above 0 and at most 2,000 */
     DEPOT_BAD_DATE = 16      /* a write, and the value is over DEPOT_LAST_DAY */
 };
 
@@ -58,17 +65,23 @@ enum depot_answer {
 uint32_t depot_setup(uint32_t *book, size_t words, uint32_t depots, uint32_t shelves, uint32_t bearings, uint32_t crews,
                      const uint32_t *homes, size_t homes_count);
 
-/* A crew reads a bearing at its home. Checks: 1, 5, 4.
- * Done: out[0] is 1 for written, 0 for unwritten; out[1] the value, 0 if unwritten; out[2] to out[5] the entries of the
- * vector, 0 past the depots. No other element of `out` is written. With out_count below 6 the read is done, and nothing
- * is written to `out`. An old book may hold values over DEPOT_LAST_DAY: it is fit, and they are read as they are. */
+/* A crew reads a bearing at its home. Checks: 100 if out_count is below DEPOT_READ_WORDS, 1, 5, 4.
+ * Done: out[0] is 1 for written, 0 for unwritten; out[1] the value, out[2] and out[3] the bits of the card's diameter and
+ * width, all 0 if unwritten; out[4] to out[7] the entries of the vector, 0 past the depots. No other element of `out` is
+ * written. An old book may hold values over DEPOT_LAST_DAY: it is fit, and they are read as they are. */
 uint32_t depot_read(uint32_t *book, size_t words, uint32_t crew, uint32_t bearing, uint32_t *out, size_t out_count);
 
-/* A crew writes a bearing's value, a day of the calendar below, at its home. Checks: 1, 5, 4, 16, 8, 10, 9.
- * Done: out[0] is the stamp; out[1] is 1 for current, 0 for superseded. No other element of `out` is written. With
- * out_count below 2 the write is done, and nothing is written to `out`. */
-uint32_t depot_write(uint32_t *book, size_t words, uint32_t crew, uint32_t bearing, uint32_t value, uint32_t *out,
-                     size_t out_count);
+/* A crew writes a bearing's value, a day of the calendar below, and its card, at its home. The card is the bits of two
+ * 32-bit floats, the outside diameter and the width in millimetres. Checks: 100 if out_count is below DEPOT_WRITE_WORDS,
+ * 1, 5, 4, 16, 14, 8, 10, 9.
+ * Done: out[0] is the stamp; out[1] is 1 for current, 0 for superseded. No other element of `out` is written. */
+uint32_t depot_write(uint32_t *book, size_t words, uint32_t crew, uint32_t bearing, uint32_t value, uint32_t diameter,
+                     uint32_t width, uint32_t *out, size_t out_count);
+
+/* The grams of grease for a card of these bits: outside diameter times width, then times 0.005, in 64-bit floats, each step
+ * rounded once. Done: out[0] is the low word of the grams' bits, a 64-bit float, and out[1] the high word. Needs no book.
+ * Checks: 100 if out_count is below DEPOT_GRAMS_WORDS, 14. */
+uint32_t depot_grams(uint32_t diameter, uint32_t width, uint32_t *out, size_t out_count);
 
 /* A shelf's clock moves on by one, and a heartbeat goes on every link out. Checks: 1, 2, 3, 10, 9. */
 uint32_t depot_tick(uint32_t *book, size_t words, uint32_t depot, uint32_t shelf);
@@ -80,6 +93,17 @@ uint32_t depot_take(uint32_t *book, size_t words, uint32_t depot, uint32_t shelf
  * Checks: 1, 2, 3. */
 uint32_t depot_refresh(uint32_t *book, size_t words, uint32_t depot, uint32_t shelf);
 
+/* Which depots now store a depot's present version of a bearing or a greater one. Looking changes no word of the book.
+ * Checks: 100 if out_count is below DEPOT_WHO_WORDS, 1, 2, 4.
+ * Done: bit d of out[0] is set if depot d has it, the depot itself among them; out[1] is how many bits are set. If what
+ * the depot has is unwritten, all depots have it. No other element of `out` is written. */
+uint32_t depot_who_has(const uint32_t *book, size_t words, uint32_t depot, uint32_t bearing, uint32_t *out, size_t out_count);
+
+/* A crew gets a new home, `depot`. It is let in when every shelf there has seen what the crew has seen of every other depot,
+ * so it reads there nothing lower than its past. To its present home it may always move; that changes nothing. One word of
+ * the book moves. Checks: 1, 5, 2, 12. */
+uint32_t depot_move(uint32_t *book, size_t words, uint32_t crew, uint32_t depot);
+
 /* 1 if the book is fit, else 0. A book of the wrong length is not. */
 uint32_t depot_is_fit(const uint32_t *book, size_t words);
 
@@ -90,13 +114,13 @@ uint32_t depot_is_fit(const uint32_t *book, size_t words);
 uint32_t depot_greater(const uint32_t *a, size_t a_words, const uint32_t *b, size_t b_words, uint32_t depots);
 
 /* One line of the desk. `line` is the line without its line feed, any bytes. The answer, with its line feed, goes to the
- * start of `out`, no byte past it is written, and its length comes back. With out_length below DEPOT_ANSWER_BYTES nothing
- * is done, neither book nor `out` is written, and 0 comes back. */
+ * start of `out`, no byte past it is written, and its length comes back. 0 is this function's answer for no
+ * room: with out_length below DEPOT_ANSWER_BYTES nothing is done, and neither book nor `out` is written. */
 size_t depot_line(uint32_t *book, size_t words, const uint8_t *line, size_t length, uint8_t *out, size_t out_length);
 
 /* The calendar: the dates from 1 January 2000, which is day 0, to 31 December 2399. Months are 1 to 12. Any numbers get an
- * answer. A refusal, any number but 0, writes nothing to `out`; nor does an answer for which `out` is too short, and its
- * number comes back all the same. No element past the answer is written. */
+ * answer. A refusal, any number but 0, writes nothing to `out`. DEPOT_NO_ROOM is one, checked first. No element past the
+ * answer is written. */
 enum depot_date_answer {
     DEPOT_DATE_GIVEN = 0,
     DEPOT_NO_SUCH_DATE = 1, /* there is no such date */
@@ -108,14 +132,16 @@ enum depot_date_answer {
 /* 1 if there is such a date, else 0. */
 uint32_t depot_is_date(uint32_t year, uint32_t month, uint32_t day);
 
-/* The day number of a date. Given: out[0] is the number. Refused: 1. */
+/* The day number of a date. Given: out[0] is the number. Checks: 100 if out_count is below DEPOT_NUMBER_WORDS, 1. */
 uint32_t depot_day_number(uint32_t year, uint32_t month, uint32_t day, uint32_t *out, size_t out_count);
 
-/* The date of a day number. Given: out[0] is the year, out[1] the month, out[2] the day. Refused: 4. */
+/* The date of a day number. Given: out[0] is the year, out[1] the month, out[2] the day. Checks: 100 if out_count is below
+ * DEPOT_DATE_WORDS, 4. */
 uint32_t depot_date_of(uint32_t day, uint32_t *out, size_t out_count);
 
 /* The n-th date after an anchor, in steps of `step` months: the anchor's day, or the month's last day where that month is
- * shorter. It is counted from the anchor, never from a shortened date. Checks: 1, 2, 3, 4.
+ * shorter. It is counted from the anchor, never from a shortened date. Checks: 100 if out_count is below
+ * DEPOT_NEXT_WORDS, 1, 2, 3, 4.
  * Given: out[0] is the year, out[1] the month, out[2] the day, out[3] the day number. */
 uint32_t depot_next_date(uint32_t year, uint32_t month, uint32_t day, uint32_t step, uint32_t n, uint32_t *out,
                          size_t out_count);

@@ -26,20 +26,53 @@ static void expect(uint32_t found, uint32_t told, const char *what) {
     }
 }
 
-static void writes(uint32_t crew, uint32_t bearing, uint32_t day, uint32_t stamp) {
+/* A card: outside diameter and width in millimetres. */
+struct card {
+    float diameter, width;
+};
+
+static const struct card bearing_card = {52.0f, 15.0f}, motor_card = {47.0f, 14.0f};
+
+/* The bits of a float, as a book has them. */
+static uint32_t bits(float length) {
+    uint32_t word;
+    memcpy(&word, &length, sizeof word);
+    return word;
+}
+
+/* The grams of grease for a card's bits. */
+static double grams(uint32_t diameter, uint32_t width) {
+    uint32_t out[DEPOT_GRAMS_WORDS];
+    uint64_t word;
+    double found;
+    expect(depot_grams(diameter, width, out, DEPOT_GRAMS_WORDS), DEPOT_DONE, "grams");
+    word = out[0] | (uint64_t)out[1] << 32;
+    memcpy(&found, &word, sizeof found);
+    return found;
+}
+
+static uint32_t asks(uint32_t crew, uint32_t bearing, uint32_t day, struct card card, uint32_t *out) {
+    return depot_write(book, DEPOT_BOOK_WORDS, crew, bearing, day, bits(card.diameter), bits(card.width), out,
+                       DEPOT_WRITE_WORDS);
+}
+
+static void writes(uint32_t crew, uint32_t bearing, uint32_t day, struct card card, uint32_t stamp) {
     uint32_t out[DEPOT_WRITE_WORDS];
-    expect(depot_write(book, DEPOT_BOOK_WORDS, crew, bearing, day, out, DEPOT_WRITE_WORDS), DEPOT_DONE, "write");
+    expect(asks(crew, bearing, day, card, out), DEPOT_DONE, "write");
     expect(out[0], stamp, "stamp");
     expect(out[1], 1, "current");
 }
 
-/* Prints what a crew finds, and expects it: written or not, and the day. */
-static void reads(const char *who, uint32_t crew, const char *what, uint32_t bearing, uint32_t written, uint32_t day) {
+/* Prints what a crew finds, and expects it: written or not, the day, and the card. */
+static void reads(const char *who, uint32_t crew, const char *what, uint32_t bearing, uint32_t written, uint32_t day,
+                  struct card card) {
     uint32_t out[DEPOT_READ_WORDS];
     expect(depot_read(book, DEPOT_BOOK_WORDS, crew, bearing, out, DEPOT_READ_WORDS), DEPOT_DONE, "read");
     if (out[0]) {
-        printf("  %s reads %s: day %lu, vector (%lu, %lu)\n", who, what, (unsigned long)out[1], (unsigned long)out[2],
-               (unsigned long)out[3]);
+        printf("  %s reads %s: day %lu, %g by %g mm, %.2f g of grease, vector (%lu, %lu)\n", who, what, (unsigned long)out[1],
+               card.diameter, card.width, grams(out[2], out[3]), (unsigned long)out[4], (unsigned long)out[5]);
+        expect(out[2], bits(card.diameter), "diameter");
+        expect(out[3], bits(card.width), "width");
     } else {
         printf("  %s reads %s: unwritten\n", who, what);
     }
@@ -73,49 +106,52 @@ int main(void) {
     const uint32_t homes[2] = {PUMP_HOUSE, MILL};
     const char *line = "R 1 0";
     uint8_t answer[DEPOT_ANSWER_BYTES];
-    uint32_t out[DEPOT_WRITE_WORDS];
+    uint32_t out[DEPOT_READ_WORDS]; /* the longest of the answers below */
     size_t length;
 
     expect(depot_setup(book, DEPOT_BOOK_WORDS, 2, SHELVES, BEARINGS, 2, homes, 2), DEPOT_DONE, "setup");
     expect(depot_is_fit(book, DEPOT_BOOK_WORDS), 1, "fit");
 
     puts("The pump crew puts the new motor to use on day 9131, then greases its bearing: next on day 9200.");
-    writes(PUMP_CREW, MOTOR, 9131, 1);
-    expect(depot_write(book, DEPOT_BOOK_WORDS, PUMP_CREW, BEARING, 9200, out, DEPOT_WRITE_WORDS), DEPOT_WAIT, "write too early");
+    writes(PUMP_CREW, MOTOR, 9131, motor_card, 1);
+    expect(asks(PUMP_CREW, BEARING, 9200, bearing_card, out), DEPOT_WAIT, "write too early");
     puts("  The bearing's shelf is behind what the crew has seen: WAIT. It ticks, and the write passes.");
     expect(depot_tick(book, DEPOT_BOOK_WORDS, PUMP_HOUSE, BEARING_SHELF), DEPOT_DONE, "tick");
-    writes(PUMP_CREW, BEARING, 9200, 2);
-    reads("the pump crew", PUMP_CREW, "the bearing", BEARING, 1, 9200);
+    writes(PUMP_CREW, BEARING, 9200, bearing_card, 2);
+    reads("the pump crew", PUMP_CREW, "the bearing", BEARING, 1, 9200, bearing_card);
 
     puts("The bearing's shelf reaches the mill first. Nobody there sees a bearing on a motor they have not heard of.");
     brings_over(BEARING_SHELF);
-    reads("the mill crew", MILL_CREW, "the bearing", BEARING, 0, 0);
+    reads("the mill crew", MILL_CREW, "the bearing", BEARING, 0, 0, bearing_card);
 
     puts("Then the motor's shelf arrives, with a tick that says: nothing older is on its way.");
     expect(depot_tick(book, DEPOT_BOOK_WORDS, PUMP_HOUSE, MOTOR_SHELF), DEPOT_DONE, "tick");
     brings_over(MOTOR_SHELF);
     expect(depot_refresh(book, DEPOT_BOOK_WORDS, MILL, BEARING_SHELF), DEPOT_DONE, "refresh");
-    reads("the mill crew", MILL_CREW, "the bearing", BEARING, 1, 9200);
-    reads("the mill crew", MILL_CREW, "the motor", MOTOR, 1, 9131);
+    reads("the mill crew", MILL_CREW, "the bearing", BEARING, 1, 9200, bearing_card);
+    reads("the mill crew", MILL_CREW, "the motor", MOTOR, 1, 9131, motor_card);
 
     puts("A line of the desk asks the same.");
     length = depot_line(book, DEPOT_BOOK_WORDS, (const uint8_t *)line, strlen(line), answer, sizeof answer);
     printf("  %s -> %.*s", line, (int)length, (const char *)answer);
-    expect(length == 11 && memcmp(answer, "0 9200 2 0\n", 11) == 0, 1, "line");
+    expect(length == 33 && memcmp(answer, "0 9200 1112539136 1097859072 2 0\n", 33) == 0, 1, "line");
 
     puts("The calendar: monthly from 31 January 2023, each counted from the anchor.");
     falls_on(1, 2, 28, 8459);
     falls_on(2, 3, 31, 8490);
     expect(depot_is_date(2023, 2, 29), 0, "29 February 2023");
     expect(depot_day_number(2023, 2, 29, out, DEPOT_NUMBER_WORDS), DEPOT_NO_SUCH_DATE, "its day number");
-    expect(depot_date_of(DEPOT_LAST_DAY + 1, NULL, 0), DEPOT_TOO_LATE, "1 January 2400");
+    expect(depot_date_of(DEPOT_LAST_DAY + 1, out, DEPOT_DATE_WORDS), DEPOT_TOO_LATE, "1 January 2400");
 
     puts("What is wrong is refused by number, and changes nothing.");
     expect(depot_tick(book, DEPOT_BOOK_WORDS, 7, 0), DEPOT_BAD_DEPOT, "bad depot");
-    expect(depot_write(book, DEPOT_BOOK_WORDS, MILL_CREW, BEARING, DEPOT_LAST_DAY + 1, out, DEPOT_WRITE_WORDS), DEPOT_BAD_DATE,
-           "a day beyond the calendar");
-    expect(depot_read(book, DEPOT_BOOK_WORDS - 1, MILL_CREW, BEARING, NULL, 0), DEPOT_BAD_BOOK, "short book");
-    expect(depot_read(NULL, 0, MILL_CREW, BEARING, NULL, 0), DEPOT_BAD_BOOK, "no book");
+    expect(asks(MILL_CREW, BEARING, DEPOT_LAST_DAY + 1, bearing_card, out), DEPOT_BAD_DATE, "a day beyond the calendar");
+    expect(asks(MILL_CREW, BEARING, 9200, (struct card){52.0f, 0.0f}, out), DEPOT_BAD_CARD, "no width");
+    expect(depot_grams(bits(2000.5f), bits(15.0f), out, DEPOT_GRAMS_WORDS), DEPOT_BAD_CARD, "grams of no card");
+    expect(depot_read(book, DEPOT_BOOK_WORDS - 1, MILL_CREW, BEARING, out, DEPOT_READ_WORDS), DEPOT_BAD_BOOK, "short book");
+    expect(depot_read(NULL, 0, MILL_CREW, BEARING, out, DEPOT_READ_WORDS), DEPOT_BAD_BOOK, "no book");
+    expect(depot_read(book, DEPOT_BOOK_WORDS, MILL_CREW, BEARING, NULL, 0), DEPOT_NO_ROOM, "no room for the answer");
+    expect(depot_date_of(0, out, DEPOT_DATE_WORDS - 1), DEPOT_NO_ROOM, "no room for a date");
     expect(depot_is_fit(book, DEPOT_BOOK_WORDS), 1, "fit");
     puts("example: all as told, by the depot register " DEPOT_REGISTER_VERSION);
     return 0;

@@ -11,6 +11,7 @@ use Rattle.loops.proofs.BoolLaws.{and-intro, pick-true}
 use Rattle.book.specs.Layout.{home, crewVector, clock, stable, seen, linkOf, held, stored}
 use Rattle.fit.specs.Fit.{fit}
 use Rattle.register.specs.Calls.{readRecord, madeRecord}
+use Rattle.paper.specs.declared.answer.Payload.{Payload}
 use Rattle.model.specs.Parts.{Counts, Write, Shelf, State, put}
 use Rattle.model.specs.Rules.{settled, holds}
 use Rattle.model.specs.Calls.{made, answered, homeShelf, shelfOf}
@@ -34,11 +35,11 @@ module _ (l : List ℕ) (F : fit l ≡ true) (c k : ℕ) (kc : c < countsIn l .c
   unfolding view
   at-home = home-here (countsIn l) l c kc
 
-  made-here : (value : ℕ) → versionOf (countsIn l .depots) (madeRecord l c k value) ≡ made (countsIn l) c k value (view l)
+  made-here : (payload : Payload) → versionOf (countsIn l .depots) (madeRecord l c k payload) ≡ made (countsIn l) c k payload (view l)
   unfolding made shelfOf newVector writeOf
-  made-here value =
-      ap (λ (w : Write). w .version) (made-write l F c k value kc)
-      ∙ sym (ap₂ (λ (d t : ℕ). record { value = value; origin = d; vector = put d (suc t) (view l .crew c) }) at-home (home-clock l F c k kc))
+  made-here payload =
+      ap (λ (w : Write). w .version) (made-write l F c k payload kc)
+      ∙ sym (ap₂ (λ (d t : ℕ). record { payload = payload; origin = d; vector = put d (suc t) (view l .crew c) }) at-home (home-clock l F c k kc))
 
   answered-here : k < countsIn l .bearings → versionOf (countsIn l .depots) (readRecord l c k) ≡ answered (countsIn l) c k (view l)
   unfolding answered homeShelf shelfOf readRecord
@@ -92,11 +93,11 @@ module _ (π : Counts) (σ : State) (l : List ℕ) (A : Agrees π σ l) where
   pub home-below-by : (c : ℕ) → c < π .crews → home l c < π .depots
   home-below-by c kc = sound-by .homes c kc
 
-  pub made-by : (c k value : ℕ) → c < π .crews → versionOf (π .depots) (madeRecord l c k value) ≡ made π c k value σ
-  made-by c k value kc =
-      ap (λ (p : Counts). versionOf (p .depots) (madeRecord l c k value)) (sym (A .counts))
-      ∙ made-here l (A .fits) c k (subst (λ (p : Counts). c < p .crews) (sym (A .counts)) kc) value
-      ∙ ap₂ (λ (p : Counts) (τ : State). made p c k value τ) (A .counts) (A .views)
+  pub made-by : (c k : ℕ) (payload : Payload) → c < π .crews → versionOf (π .depots) (madeRecord l c k payload) ≡ made π c k payload σ
+  made-by c k payload kc =
+      ap (λ (p : Counts). versionOf (p .depots) (madeRecord l c k payload)) (sym (A .counts))
+      ∙ made-here l (A .fits) c k (subst (λ (p : Counts). c < p .crews) (sym (A .counts)) kc) payload
+      ∙ ap₂ (λ (p : Counts) (τ : State). made p c k payload τ) (A .counts) (A .views)
 
   pub answered-by : (c k : ℕ) → c < π .crews → k < π .bearings → versionOf (π .depots) (readRecord l c k) ≡ answered π c k σ
   answered-by c k kc kk =

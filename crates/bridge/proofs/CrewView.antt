@@ -32,7 +32,7 @@ module _ (π : Counts) (m v : List ℕ) (size : length v ≡ length m) (above : 
   slot-above : (q i : ℕ) → slot v q i ≡ slot m q i
   slot-above q i = part-off v m (slotAt q i) 10 size λ j x y. above j (omega arith)
 
-  shelf-above : (d s : ℕ) → shelfAt π v d s ≡ shelfAt π m d s
+  pub shelf-above : (d s : ℕ) → shelfAt π v d s ≡ shelfAt π m d s
   unfolding shelfAt storeAt untakenOn
   shelf-above d s =
       shelf-path
@@ -104,7 +104,7 @@ told-here n r few =
     pick-true _ _ z ∙ ap read-unwritten same ∙ sym (pick-true _ _ (version-zeros n r ∙ z)))
     (λ (z : zeros n (vectorOf r) ≡ false).
     pick-false _ _ z
-    ∙ ap₂ read-value (sym (ap (λ (v : Version). v .value) (version-written n r z))) same ∙ sym (pick-false _ _ (version-zeros n r ∙ z)))
+    ∙ ap₂ read-value (sym (ap (λ (v : Version). v .payload) (version-written n r z))) same ∙ sym (pick-false _ _ (version-zeros n r ∙ z)))
     (decided (zeros n (vectorOf r)))
   where
     same : take n (cut n (vectorOf r)) ≡ entries n (versionOf n r .vector)

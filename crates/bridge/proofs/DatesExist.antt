@@ -23,9 +23,9 @@ use Rattle.bridge.specs.Demands.{HasDate, bookOf, DatesExist}
 use Rattle.bridge.proofs.Decoded.{version-written}
 
 -- the value of a version that is unwritten, or dated, is at most the last day
-dated-value : (v : Version) → Dated v → v .value ≤ lastDay
+dated-value : (v : Version) → Dated v → v .payload .value ≤ lastDay
 unfolding unwritten
-dated-value v t = ⊎-elim (λ e. subst (λ (u : Version). u .value ≤ lastDay) (sym e) (omega arith)) (λ h. h) t
+dated-value v t = ⊎-elim (λ e. subst (λ (u : Version). u .payload .value ≤ lastDay) (sym e) (omega arith)) (λ h. h) t
 
 has-date : (k : ℕ) → k ≤ lastDay → HasDate k
 has-date k h = let t = date-answered k h in record { date = dateOf k; answer = t .0; good = t .1 }
@@ -37,6 +37,6 @@ dates-exist n homes L = record {
       ⊎-elim
       (λ (z : zeros (n .depots) (vectorOf r) ≡ true). inl z)
       (λ (z : zeros (n .depots) (vectorOf r) ≡ false).
-      inr (has-date (valueOf r) (subst (λ (x : ℕ). x ≤ lastDay) (ap (λ (v : Version). v .value) (version-written (n .depots) r z)) (dated-value _ (L .stores-dated h d k hd hk)))))
+      inr (has-date (valueOf r) (subst (λ (x : ℕ). x ≤ lastDay) (ap (λ (v : Version). v .payload .value) (version-written (n .depots) r z)) (dated-value _ (L .stores-dated h d k hd hk)))))
       (decided (zeros (n .depots) (vectorOf r)));
 }

@@ -11,13 +11,14 @@ use borrow.Author.Tests.{lt-ltb, le-ltb, ltb-true}
 use Rattle.loops.specs.Loops.{pick}
 use Rattle.order.specs.Vector.{Vec, covered, zeros}
 use Rattle.order.specs.Order.{above}
-use Rattle.order.specs.Record.{valueOf, originOf, vectorOf, rankOf}
+use Rattle.order.specs.Record.{originOf, vectorOf, rankOf}
 use Rattle.loops.proofs.BoolLaws.{decided, pick-true, pick-false}
 use Rattle.order.proofs.VectorLaws.{covered-same, zeros-same, zeros-at}
 use Rattle.order.proofs.OrderLaws.{above-unwritten, above-written, above-cong}
 use Rattle.book.specs.Layout.{held, taken, slot, recordOf}
 use Rattle.shelf.proofs.SlotLaws as slotted
 use Rattle.shelf.proofs.ShowLaws.{takenSlots, untakenSlots}
+use Rattle.register.specs.Answers.{payloadOf}
 use Rattle.model.specs.Parts.{Version, rank, unwritten, greater}
 use Rattle.model.specs.Rules.{clear}
 use Rattle.bridge.specs.View.{entriesAt, versionOf, VersionKept, writeOf, messageOf, listed, takenOn, untakenOn}
@@ -30,7 +31,7 @@ module _ (n : ℕ) where
   unfolding versionOf
   version-unwritten r z = pick-true _ _ z
 
-  pub version-written : (r : List ℕ) → zeros n (vectorOf r) ≡ false → versionOf n r ≡ record { value = valueOf r; origin = originOf r; vector = entriesAt n r 5 }
+  pub version-written : (r : List ℕ) → zeros n (vectorOf r) ≡ false → versionOf n r ≡ record { payload = payloadOf r; origin = originOf r; vector = entriesAt n r 5 }
   unfolding versionOf
   version-written r z = pick-false _ _ z
 
@@ -91,7 +92,7 @@ module _ (n : ℕ) where
         let z : zeros n (vectorOf s) ≡ false = sym (version-zeros s) ∙ ap (λ (v : Version). zeros n (v .vector)) (sym e) ∙ version-zeros r ∙ y in
         let f = sym (version-written r y) ∙ e ∙ version-written s z in
         record {
-          value = ap (λ (v : Version). v .value) f;
+          payload = ap (λ (v : Version). v .payload) f;
           origin = ap (λ (v : Version). v .origin) f;
           entries = λ x k. sym (version-entry r x k) ∙ ap (λ (v : Version). v .vector x) e ∙ version-entry s x k;
         };
@@ -101,7 +102,7 @@ module _ (n : ℕ) where
         (λ (z : zeros n (vectorOf r) ≡ true). version-unwritten r z ∙ sym (version-unwritten s (sym zeros-too ∙ z)))
         (λ (z : zeros n (vectorOf r) ≡ false).
         version-written r z
-        ∙ (λ i. record { value = e .value i; origin = e .origin i; vector = entries-same r s (e .entries) i })
+        ∙ (λ i. record { payload = e .payload i; origin = e .origin i; vector = entries-same r s (e .entries) i })
         ∙ sym (version-written s (sym zeros-too ∙ z)))
         (decided (zeros n (vectorOf r)));
     compares = version-above;

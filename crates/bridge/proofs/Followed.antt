@@ -11,7 +11,8 @@ use Rattle.register.specs.Table as table
 use Rattle.register.specs.Calls.{setUp}
 use Rattle.upkeep.proofs.FitSetup.{setup-fit}
 use Rattle.model.specs.Parts.{Counts, Version, State, fresh}
-use Rattle.paper.specs.Calls.{Call, read, write, tick, take, refresh, Answer}
+use Rattle.paper.specs.declared.answer.Payload.{Payload}
+use Rattle.paper.specs.Calls.{Call, read, write, tick, take, refresh, move, Answer}
 use Rattle.model.specs.Calls.{shelfOf, made, refusal, step, answers, ends}
 use Rattle.model.specs.System.{after, ofModel, run}
 use Rattle.model.specs.Follows.{Alike, Follows}
@@ -26,6 +27,7 @@ use Rattle.bridge.proofs.Numbers.{read-number, write-number, tick-numbe
 use Rattle.bridge.proofs.TickCall.{tick-bridge}
 use Rattle.bridge.proofs.TakeCall.{take-bridge}
 use Rattle.bridge.proofs.RefreshCall.{refresh-bridge}
+use Rattle.bridge.proofs.MoveCall.{move-number, move-bridge}
 use Rattle.bridge.proofs.ReadCall.{read-bridge}
 use Rattle.bridge.proofs.WriteCall.{write-bridge}
 use Rattle.bridge.proofs.Agrees.{Agrees, clock-by, stable-by, seen-by, held-by, store-by, crew-by, home-by, home-below-by, made-by, answered-by}
@@ -36,18 +38,20 @@ module _ (l : List ℕ) (F : fit l ≡ true) where
   call-step : (q : Call) → Bridged l q (replyTo l (call q)) (bookAfter l (call q))
   unfolding numberAt doneAnswer changedBy bookAfter replyTo
   call-step (read c k) = read-bridge l F c k _ _ refl refl
-  call-step (write c k value) = write-bridge l F c k value _ _ refl refl
+  call-step (write c k payload) = write-bridge l F c k payload _ _ refl refl
   call-step (tick d s) = tick-bridge l F d s _ _ refl refl
   call-step (take d s from) = take-bridge l F d s from _ _ refl refl
   call-step (refresh d s) = refresh-bridge l F d s _ _ refl refl
+  call-step (move c d) = move-bridge l F c d _ _ refl refl
 
   call-number : (q : Call) → numberAt l (call q) ≡ refusal (countsIn l) (view l) q
   unfolding numberAt
   call-number (read c k) = read-number l F c k
-  call-number (write c k value) = write-number l F c k value
+  call-number (write c k payload) = write-number l F c k payload
   call-number (tick d s) = tick-number l F d s
   call-number (take d s from) = take-number l F d s from
   call-number (refresh d s) = refresh-number l F d s
+  call-number (move c d) = move-number l F c d
 
 -- ---- a book that is seen as a state
 
@@ -82,7 +86,7 @@ module _ (l₀ : List ℕ) (n : book.Counts) (homes : List ℕ) (done : table.se
   π = toModel n
 
   -- who wrote, of what is done
-  by-write : (σ : State) (q : Call) (c k v : ℕ) → q ≡ write c k v → refusal π σ q ≡ 0 → (c < π .crews) × (k < π .bearings)
+  by-write : (σ : State) (q : Call) (c k : ℕ) (v : Payload) → q ≡ write c k v → refusal π σ q ≡ 0 → (c < π .crews) × (k < π .bearings)
   by-write σ q c k v e p = let w = write-passed π σ c k v (subst (λ q. refusal π σ q ≡ 0) e p) in (w .crew, w .bearing)
 
   by-read : (σ : State) (q : Call) (c k : ℕ) → q ≡ read c k → refusal π σ q ≡ 0 → (c < π .crews) × (k < π .bearings)
@@ -108,7 +112,7 @@ module _ (l₀ : List ℕ) (n : book.Counts) (homes : List ℕ) (done : table.se
     writes = λ q c w p m.
         let a = by-write σ q c _ _ (m .1) p in
         (a .0, a .1, subst (λ (v : Version). v .origin < π .depots) (sym (m .2)) (housed π σ l A c (a .0)));
-    waits = λ c k value. waits-crew π σ c k value;
+    waits = λ c k payload. waits-crew π σ c k payload;
     housed = housed π σ l A;
   }
 

@@ -23,6 +23,7 @@ use Rattle.shelf.proofs.FrameLaws.{length-kept-in, kept-in-low, kept-in-off}
 use Rattle.shelf.proofs.SweepLaws.{recordKept, kept-in-stored}
 use Rattle.register.specs.Calls.{newStamp, madeVector, madeRecord}
 use Rattle.register.proofs.MadeLaws.{made-entry}
+use Rattle.paper.specs.declared.answer.Payload.{Payload}
 use Rattle.model.specs.Parts.{Counts, Version, Write, copy, put}
 use Rattle.model.specs.Rules.{keeping, storing, keep}
 use Rattle.model.proofs.Places.{put-same, put-other}
@@ -38,7 +39,7 @@ use Rattle.bridge.proofs.HomeView.{kd, crew-agrees}
 
 -- ---- the version
 
-module _ (l : List ℕ) (F : fit l ≡ true) (c k value : ℕ) (kc : c < countsIn l .crews) where
+module _ (l : List ℕ) (F : fit l ≡ true) (c k : ℕ) (payload : Payload) (kc : c < countsIn l .crews) where
   -- its vector: the crew's, with the home entry set to the new clock
   unfoldable pub newVector : Vec
   newVector = put (home l c) (suc (clock l (home l c) (k % countsIn l .shelves))) (view l .crew c)
@@ -57,16 +58,16 @@ module _ (l : List ℕ) (F : fit l ≡ true) (c k value : ℕ) (kc : c < countsI
       let g = kd l F c k kc in
       new-other x (omega arith) ∙ ap (λ (u : Vec). u x) (crew-here (countsIn l) l c kc) ∙ pick-false _ _ (borrow.Author.Tests.le-ltb x _ h)
 
-  made-is : (x : ℕ) → x < countsIn l .depots → vectorOf (madeRecord l c k value) x ≡ newVector x
+  made-is : (x : ℕ) → x < countsIn l .depots → vectorOf (madeRecord l c k payload) x ≡ newVector x
   unfolding madeVector
   made-is x h =
-      made-entry l c k value x (sound l F .small .depots) h
+      made-entry l c k payload x (sound l F .small .depots) h
       ∙ ⊎-elim
       (λ (e : x ≡ home l c). pick-true _ _ (eq-eqb x _ e) ∙ sym new-own ∙ ap newVector (sym e))
       (λ (e : x ≡ home l c → ⊥). pick-false _ _ (ne-eqb x _ e) ∙ crew-agrees l F c k kc x h ∙ sym (new-other x e))
       (eq-or-ne x (home l c))
 
-  made-entries : entriesAt (countsIn l .depots) (madeRecord l c k value) 5 ≡ newVector
+  made-entries : entriesAt (countsIn l .depots) (madeRecord l c k payload) 5 ≡ newVector
   unfolding entriesAt
   made-entries = fun-ext λ x.
       ⊎-elim
@@ -74,24 +75,24 @@ module _ (l : List ℕ) (F : fit l ≡ true) (c k value : ℕ) (kc : c < countsI
       (λ (e : ltb x (countsIn l .depots) ≡ false). pick-false _ _ e ∙ sym (new-beyond x (ltb-false x _ e)))
       (decided (ltb x (countsIn l .depots)))
 
-  pub made-written : zeros (countsIn l .depots) (vectorOf (madeRecord l c k value)) ≡ false
+  pub made-written : zeros (countsIn l .depots) (vectorOf (madeRecord l c k payload)) ≡ false
   made-written =
       let h = kd l F c k kc in
       written-at (countsIn l .depots) _ (home l c) h (subst (λ (x : ℕ). 0 < x) (sym (made-is (home l c) h ∙ new-own)) (omega arith))
 
   -- the write
   abbrev pub newWrite : Write
-  newWrite = record { bearing = k; version = record { value = value; origin = home l c; vector = newVector } }
+  newWrite = record { bearing = k; version = record { payload = payload; origin = home l c; vector = newVector } }
 
-  pub made-write : writeOf (countsIn l .depots) (madeRecord l c k value) ≡ newWrite
+  pub made-write : writeOf (countsIn l .depots) (madeRecord l c k payload) ≡ newWrite
   unfolding writeOf madeRecord
   made-write =
-      ap (λ (v : Version). record { bearing = k; version = v }) (version-written (countsIn l .depots) (madeRecord l c k value) made-written)
-      ∙ ap (λ (u : Vec). record { bearing = k; version = record { value = value; origin = home l c; vector = u } }) made-entries
+      ap (λ (v : Version). record { bearing = k; version = v }) (version-written (countsIn l .depots) (madeRecord l c k payload) made-written)
+      ∙ ap (λ (u : Vec). record { bearing = k; version = record { payload = payload; origin = home l c; vector = u } }) made-entries
 
-  pub made-message-of : messageOf (countsIn l .depots) (copyKind ∷ madeRecord l c k value) ≡ copy newWrite
+  pub made-message-of : messageOf (countsIn l .depots) (copyKind ∷ madeRecord l c k payload) ≡ copy newWrite
   unfolding messageOf pick
-  made-message-of = ap (λ (r : List ℕ). copy (writeOf (countsIn l .depots) r)) (Rattle.register.proofs.MadeLaws.made-record-of l c k value) ∙ ap copy made-write
+  made-message-of = ap (λ (r : List ℕ). copy (writeOf (countsIn l .depots) r)) (Rattle.register.proofs.MadeLaws.made-record-of l c k payload) ∙ ap copy made-write
 
 -- ---- storing if greater
 

@@ -9,6 +9,8 @@ use lib.Dec.{eqb, ltb, leb}
 use borrow.Author.Tests.{leb-false, lt-ltb, eqb-false}
 use Rattle.loops.specs.Loops.{pick}
 use Rattle.loops.proofs.BoolLaws.{pick-true, pick-false}
+use Rattle.card.specs.Card.{cardFit}
+use Rattle.paper.specs.declared.answer.Payload.{Payload}
 use Rattle.paper.specs.Calls.{lastDay, Call, read, write, tick, take, refresh, first, answerBy}
 use Rattle.book.specs.Layout.{home, crewVector, clock}
 use Rattle.fit.specs.Fit.{fit}
@@ -21,7 +23,7 @@ use Rattle.bridge.proofs.Basics.{or-none, pick-else, pick-ap}
 use Rattle.bridge.proofs.Sound.{sound}
 use Rattle.bridge.proofs.Looks.{shelf-here, crew-here, home-here, untaken-here, none-here, roomy-here}
 
-fit-passes : {b : Bool} → b ≡ true → not b ≡ false
+pub fit-passes : {b : Bool} → b ≡ true → not b ≡ false
 fit-passes {b = true} e = refl
 fit-passes {b = false} e = absurd (false≢true e)
 
@@ -75,11 +77,12 @@ module _ (l : List ℕ) (F : fit l ≡ true) where
       ap₂ (λ (u : ℕ → ℕ) (d : ℕ). u d) (crew-here (countsIn l) l c h) (home-here (countsIn l) l c h)
       ∙ pick-true _ _ (lt-ltb _ _ (sound l F .homes c h))
 
-  pub write-number : (c k value : ℕ) → table.writeNumber l c k value ≡ calls.refusal (countsIn l) (view l) (write c k value)
+  pub write-number : (c k : ℕ) (payload : Payload) → table.writeNumber l c k payload ≡ calls.refusal (countsIn l) (view l) (write c k payload)
   unfolding table.writeNumber first calls.refusal calls.shelfOf view end
-  write-number c k value =
+  write-number c k payload =
       pick-false _ _ (fit-passes (fit-write l F c k))
-      ∙ pick-else (leb (countsIn l .crews) c) 5 λ kc. pick-else (leb (countsIn l .bearings) k) 4 λ kk. pick-else (ltb lastDay value) 16 λ kv.
+      ∙ pick-else (leb (countsIn l .crews) c) 5 λ kc. pick-else (leb (countsIn l .bearings) k) 4 λ kk.
+      pick-else (ltb lastDay (payload .value)) 16 λ kv. pick-else (not (cardFit (payload .diameter) (payload .width))) 14 λ kg.
       let c< = leb-false _ c kc in
       let S = sound l F in
       let s = k % countsIn l .shelves in

@@ -10,12 +10,13 @@ use Rattle.book.specs.declared.parts.Counts.{Counts}
 use Rattle.book.specs.Layout.{bookWords}
 use Rattle.fit.specs.Fit.{fit}
 use Rattle.register.specs.Promises as promises
+use Rattle.paper.specs.declared.answer.Payload.{Payload}
 use Rattle.paper.specs.Answers.{paper, paperRead, paperWrite}
 use Rattle.paper.specs.declared.answer.Answer as plain
 use Rattle.paper.specs.declared.answer.ReadAnswer.{ReadAnswer}
 use Rattle.paper.specs.declared.answer.WriteAnswer.{WriteAnswer}
 use Rattle.model.specs.Parts.{fresh}
-use Rattle.paper.specs.Calls.{Call, read, write, tick, take, refresh, Answer, done, answerBy}
+use Rattle.paper.specs.Calls.{Call, read, write, tick, take, refresh, move, Answer, done, answerBy}
 use Rattle.model.specs.Calls.{setup, step}
 use Rattle.bridge.specs.View.{toModel, countsIn, view}
 
@@ -40,10 +41,11 @@ pub record Bridge : Type 0 where
       → BridgedSetup l n homes (paper r) l′
   pub of-read : (l : List ℕ) → fit l ≡ true → (c k : ℕ) (r : ReadAnswer) (l′ : List ℕ) → promises.Read l c k r l′
       → Bridged l (read c k) (paperRead r) l′
-  pub of-write : (l : List ℕ) → fit l ≡ true → (c k value : ℕ) (r : WriteAnswer) (l′ : List ℕ) → promises.Write l c k value r l′
-      → Bridged l (write c k value) (paperWrite r) l′
+  pub of-write : (l : List ℕ) → fit l ≡ true → (c k : ℕ) (payload : Payload) (r : WriteAnswer) (l′ : List ℕ) → promises.Write l c k payload r l′
+      → Bridged l (write c k payload) (paperWrite r) l′
   pub of-tick : (l : List ℕ) → fit l ≡ true → (d s : ℕ) (r : plain.Answer) (l′ : List ℕ) → promises.Tick l d s r l′ → Bridged l (tick d s) (paper r) l′
   pub of-take : (l : List ℕ) → fit l ≡ true → (d s from : ℕ) (r : plain.Answer) (l′ : List ℕ) → promises.Take l d s from r l′
       → Bridged l (take d s from) (paper r) l′
   pub of-refresh : (l : List ℕ) → fit l ≡ true → (d s : ℕ) (r : plain.Answer) (l′ : List ℕ) → promises.Refresh l d s r l′
       → Bridged l (refresh d s) (paper r) l′
+  pub of-move : (l : List ℕ) → fit l ≡ true → (c d : ℕ) (r : plain.Answer) (l′ : List ℕ) → promises.Move l c d r l′ → Bridged l (move c d) (paper r) l′

@@ -7,6 +7,7 @@ use mathlib.Core.List.{List, _∷_, _++_}
 use Rattle.book.specs.declared.parts.Counts.{Counts}
 use Rattle.book.specs.Layout.{home, crewVector, clock, stable, seen, linkOf, held, stored}
 use Rattle.register.specs.Calls.{setUp, readRecord, madeRecord}
+use Rattle.paper.specs.declared.answer.Payload.{Payload}
 use Rattle.paper.specs.Calls.{read, write}
 use Rattle.model.specs.System.{System, after}
 use Rattle.bridge.specs.View.{versionOf}
@@ -27,7 +28,7 @@ ofBooks n homes = record {
   seen = seen;
   held = λ l d s o. held l (linkOf s o d);
   store = λ l d k. versionOf (n .depots) (stored l d k);
-  makes = λ l q c w. (value : ℕ) × (q ≡ write c (w .bearing) value) × (w .version ≡ versionOf (n .depots) (madeRecord l c (w .bearing) value));
+  makes = λ l q c w. (p : Payload) × (q ≡ write c (w .bearing) p) × (w .version ≡ versionOf (n .depots) (madeRecord l c (w .bearing) p));
   gets = λ l q c k v. (q ≡ read c k) × (v ≡ versionOf (n .depots) (readRecord l c k));
 }
 

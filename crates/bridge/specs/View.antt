@@ -10,9 +10,10 @@ use lib.ListN.{getD}
 use Rattle.loops.specs.Loops.{pick}
 use Rattle.order.specs.Vector.{Vec, zeros}
 use Rattle.order.specs.Order.{above}
-use Rattle.order.specs.Record.{bearingOf, valueOf, originOf, vectorOf, rankOf}
+use Rattle.order.specs.Record.{bearingOf, originOf, vectorOf, rankOf}
 use Rattle.book.specs.declared.parts.Counts as book
 use Rattle.book.specs.Layout.{crewAt, stableAt, linkOf, home, clock, seen, held, taken, slot, stored, beatKind, kindOf, beatOf, recordOf}
+use Rattle.register.specs.Answers.{payloadOf}
 use Rattle.model.specs.Parts.{Counts, Version, Write, Message, copy, heartbeat, Shelf, State, rank, other, unwritten, emptyShelf}
 
 -- the counts that a setup asks for, as the model has them
@@ -29,11 +30,11 @@ entriesAt n l a x = pick (ltb x n) (getD l (a + x) 0) 0
 
 -- the version that the record r is, with n depots: with the zero vector it is unwritten
 unfoldable pub versionOf : ℕ → List ℕ → Version
-versionOf n r = pick (zeros n (vectorOf r)) unwritten (record { value = valueOf r; origin = originOf r; vector = entriesAt n r 5 })
+versionOf n r = pick (zeros n (vectorOf r)) unwritten (record { payload = payloadOf r; origin = originOf r; vector = entriesAt n r 5 })
 
--- two records hold the same version: value, origin and the n entries
+-- two records hold the same version: value and card, origin and the n entries
 pub record SameVersion (n : ℕ) (r s : List ℕ) : Type 0 where
-  pub value : valueOf r ≡ valueOf s
+  pub payload : payloadOf r ≡ payloadOf s
   pub origin : originOf r ≡ originOf s
   pub entries : (x : ℕ) → x < n → vectorOf r x ≡ vectorOf s x
 

@@ -9,7 +9,7 @@ use borrow.Author.Tests.{le-leb, lt-leb, eq-eqb, ne-eqb}
 use Rattle.loops.specs.Loops.{pick}
 use Rattle.loops.proofs.BoolLaws.{and-stop, and-intro, pick-true, pick-false}
 use Rattle.months.specs.Months.{start}
-use Rattle.calendar.specs.Dates.{isDate, dayNumber, dateOf, numberAnswer, dateAnswer}
+use Rattle.calendar.specs.Dates.{isDate, dayNumber, dateOf, dayNumberAnswer, dateAnswer}
 use Rattle.calendar.specs.Next.{isStep, nextMonth, nextDate, numbered, nextAnswer}
 use Rattle.calendar.specs.declared.answers.DateRefusal.the-variants.{BadDate, BadStep, BadCount, TooLate}
 use Rattle.calendar.specs.declared.answers.DateAnswer.the-variants.{Refused, On}
@@ -19,12 +19,12 @@ pub start-uncut : (m : ℕ) → m ≤ 4800 → start (min m 4800) ≡ start m
 start-uncut m h = ap start (omega arith)
 
 -- the day number of a date
-pub number-refused : (y m d : ℕ) → isDate y m d ≡ false → numberAnswer y m d ≡ Refused BadDate
-unfolding numberAnswer
+pub number-refused : (y m d : ℕ) → isDate y m d ≡ false → dayNumberAnswer y m d ≡ Refused BadDate
+unfolding dayNumberAnswer
 number-refused y m d e = pick-false _ _ e
 
-pub number-given : (y m d : ℕ) → isDate y m d ≡ true → numberAnswer y m d ≡ On (record { year = y; month = m; day = d }) (dayNumber y m d)
-unfolding numberAnswer
+pub number-given : (y m d : ℕ) → isDate y m d ≡ true → dayNumberAnswer y m d ≡ On (record { year = y; month = m; day = d }) (dayNumber y m d)
+unfolding dayNumberAnswer
 number-given y m d e = pick-true _ _ e
 
 -- the date of a day number

@@ -9,7 +9,7 @@ use mathlib.Core.Bool.{true, false}
 use borrow.Author.Tests.{leb-true}
 use Rattle.loops.proofs.BoolLaws.{and-left, decided, eq-or-ne, le-or-lt}
 use Rattle.months.specs.Months.{daysOf, start}
-use Rattle.calendar.specs.Dates.{isDate, monthIndex, dayNumber, numberOf}
+use Rattle.calendar.specs.Dates.{isDate, monthIndex, dayNumber, dayNumberOf}
 use Rattle.calendar.specs.Next.{isStep, nextMonth, dayWithin, nextDate, numbered, nextAnswer}
 use Rattle.calendar.specs.Promises.{Accepted, Reason, bad-date, bad-step, bad-count, too-late, good}
 use Rattle.calendar.specs.declared.answers.Date.{Date}
@@ -21,7 +21,7 @@ use Rattle.calendar.proofs.DateLaws.{date-real, date-in-real, index-day
 use Rattle.calendar.proofs.AnswerLaws.{next-bad-date, next-bad-step, next-bad-count, next-too-late, next-given}
 
 -- what is answered when there is one
-pub given : (y m d s n : ℕ) → Accepted y m d s n → nextAnswer y m d s n ≡ On (nextDate y m d s n) (numberOf (nextDate y m d s n))
+pub given : (y m d s n : ℕ) → Accepted y m d s n → nextAnswer y m d s n ≡ On (nextDate y m d s n) (dayNumberOf (nextDate y m d s n))
 unfolding numbered
 given y m d s n w = next-given y m d s n (w .anchor) (w .step) (w .count) (w .in-time)
 
@@ -57,7 +57,7 @@ accepted y m d s n p = of (reason y m d s n p)
 nextNumber : ℕ → ℕ → ℕ → ℕ → ℕ → ℕ
 nextNumber y m d s n = start (nextMonth y m s n) + (dayWithin (nextMonth y m s n) d - 1)
 
-next-number : (y m d s n : ℕ) → numberOf (nextDate y m d s n) ≡ nextNumber y m d s n
+next-number : (y m d s n : ℕ) → dayNumberOf (nextDate y m d s n) ≡ nextNumber y m d s n
 unfolding nextDate nextNumber
 next-number y m d s n = number-in (nextMonth y m s n) (dayWithin (nextMonth y m s n) d)
 
@@ -87,15 +87,15 @@ from-anchor y m d s e =
     rw z (omega (arith, index-days y m (w .year-least) (w .month-least) (w .month-most), w .day-most))
 
 -- the next one is later
-pub number-rises : (y m d s n : ℕ) → 1 ≤ d → 1 ≤ s → numberOf (nextDate y m d s n) < numberOf (nextDate y m d s (suc n))
+pub number-rises : (y m d s n : ℕ) → 1 ≤ d → 1 ≤ s → dayNumberOf (nextDate y m d s n) < dayNumberOf (nextDate y m d s (suc n))
 number-rises y m d s n h k = rw (next-number y m d s n, next-number y m d s (suc n)) (rises y m d s n h k)
 
 -- with no step at all it is the anchor
-pub number-anchor : (y m d s : ℕ) → isDate y m d ≡ true → numberOf (nextDate y m d s 0) ≡ dayNumber y m d
+pub number-anchor : (y m d s : ℕ) → isDate y m d ≡ true → dayNumberOf (nextDate y m d s 0) ≡ dayNumber y m d
 number-anchor y m d s e = next-number y m d s 0 ∙ from-anchor y m d s e
 
 -- an answer that is a date is the n-th next date and its number
-pub answered : (y m d s n : ℕ) {e : Date} {k : ℕ} → nextAnswer y m d s n ≡ On e k → (nextDate y m d s n ≡ e) × (numberOf (nextDate y m d s n) ≡ k)
+pub answered : (y m d s n : ℕ) {e : Date} {k : ℕ} → nextAnswer y m d s n ≡ On e k → (nextDate y m d s n ≡ e) × (dayNumberOf (nextDate y m d s n) ≡ k)
 answered y m d s n p =
     let q = sym (given y m d s n (accepted y m d s n p)) ∙ p in
     (cc, cc)

@@ -9,7 +9,7 @@ use mathlib.Core.Logic.{⊎-elim}
 use lib.ListN.{length, getD}
 use Rattle.loops.proofs.BoolLaws.{decided}
 use Rattle.months.specs.Months.{daysOf}
-use Rattle.calendar.specs.Dates.{isDate, dayNumber, numberOf, dateOf, numberAnswer, dateAnswer}
+use Rattle.calendar.specs.Dates.{isDate, dayNumber, dayNumberOf, dateOf, dayNumberAnswer, dateAnswer}
 use Rattle.calendar.specs.Next.{nextDate, nextAnswer}
 use Rattle.calendar.specs.Promises.{Good}
 use Rattle.calendar.specs.declared.answers.Date.{Date}
@@ -22,7 +22,7 @@ use Rattle.calendar.proofs.Bijection.{number-small, date-of-number, dat
 use Rattle.calendar.proofs.NextLaws.{accepted, given, step-least, number-rises, number-anchor, answered, next-exists, accepted-before}
 
 -- there and back: a date's number, asked for its date, gives that date
-pub there-and-back : (y m d : ℕ) {e : Date} {k : ℕ} → numberAnswer y m d ≡ On e k → dateAnswer k ≡ On (record { year = y; month = m; day = d }) k
+pub there-and-back : (y m d : ℕ) {e : Date} {k : ℕ} → dayNumberAnswer y m d ≡ On e k → dateAnswer k ≡ On (record { year = y; month = m; day = d }) k
 there-and-back y m d {k} p =
     ⊎-elim
     (λ (a : isDate y m d ≡ true).
@@ -33,7 +33,7 @@ there-and-back y m d {k} p =
     (decided (isDate y m d))
 
 -- back and there: a day's date, asked for its number, gives that day
-pub back-and-there : (k : ℕ) → k ≤ 146096 → numberAnswer (dateOf k .year) (dateOf k .month) (dateOf k .day) ≡ On (dateOf k) k
+pub back-and-there : (k : ℕ) → k ≤ 146096 → dayNumberAnswer (dateOf k .year) (dateOf k .month) (dateOf k .day) ≡ On (dateOf k) k
 back-and-there k h =
     number-given (dateOf k .year) (dateOf k .month) (dateOf k .day) (date-of-real k h) ∙ ap (On (dateOf k)) (number-of-date k h)
 
@@ -66,7 +66,7 @@ module _ (y m d s : ℕ) where
 
   -- and there is one before each but the first
   pub next-before : (n : ℕ) {b : Date} {k : ℕ} → nextAnswer y m d s (suc (suc n)) ≡ On b k
-      → nextAnswer y m d s (suc n) ≡ On (nextDate y m d s (suc n)) (numberOf (nextDate y m d s (suc n)))
+      → nextAnswer y m d s (suc n) ≡ On (nextDate y m d s (suc n)) (dayNumberOf (nextDate y m d s (suc n)))
   next-before n q = given y m d s (suc n) (accepted-before y m d s n (accepted y m d s (suc (suc n)) q))
 
 -- the table: 4,800 entries, 0 first, each the one before plus that month's days, and they are the month starts; the year 2400 would start

@@ -37,8 +37,8 @@ dateIn m d = record { year = yearOf m; month = monthOf m; day = d }
 unfoldable pub dayNumber : ℕ → ℕ → ℕ → ℕ
 dayNumber year month day = start (monthIndex year month) + (day - 1)
 
-abbrev pub numberOf : Date → ℕ
-numberOf d = dayNumber (d .year) (d .month) (d .day)
+abbrev pub dayNumberOf : Date → ℕ
+dayNumberOf d = dayNumber (d .year) (d .month) (d .day)
 
 -- the last of the months 0 to n that starts by day k
 unfoldable pub monthBy : ℕ → ℕ → ℕ
@@ -54,8 +54,8 @@ unfoldable pub dateOf : ℕ → Date
 dateOf k = dateIn (monthOn k) (k - start (monthOn k) + 1)
 
 -- the answer to a date whose day number is asked for
-unfoldable pub numberAnswer : ℕ → ℕ → ℕ → DateAnswer
-numberAnswer year month day = pick (isDate year month day) (On (record { year = year; month = month; day = day }) (dayNumber year month day)) (Refused BadDate)
+unfoldable pub dayNumberAnswer : ℕ → ℕ → ℕ → DateAnswer
+dayNumberAnswer year month day = pick (isDate year month day) (On (record { year = year; month = month; day = day }) (dayNumber year month day)) (Refused BadDate)
 
 -- the answer to a day number whose date is asked for
 unfoldable pub dateAnswer : ℕ → DateAnswer

@@ -5,7 +5,7 @@ use mathlib.Core.Bool.{Bool, _&&_, not}
 use lib.Dec.{leb, eqb}
 use Rattle.loops.specs.Loops.{pick}
 use Rattle.months.specs.Months.{months, daysOf}
-use Rattle.calendar.specs.Dates.{isDate, monthIndex, dateIn, numberOf}
+use Rattle.calendar.specs.Dates.{isDate, monthIndex, dateIn, dayNumberOf}
 use Rattle.calendar.specs.declared.answers.Date.{Date}
 use Rattle.calendar.specs.declared.answers.DateRefusal.the-variants.{BadDate, BadStep, BadCount, TooLate}
 use Rattle.calendar.specs.declared.answers.DateAnswer.{DateAnswer}
@@ -29,7 +29,7 @@ nextDate year month day step n = dateIn (nextMonth year month step n) (dayWithin
 
 -- a date with its day number
 unfoldable pub numbered : Date → DateAnswer
-numbered d = On d (numberOf d)
+numbered d = On d (dayNumberOf d)
 
 -- the answer to an anchor, a step and a count: the first refusal that fits, or the date with its day number
 unfoldable pub nextAnswer : ℕ → ℕ → ℕ → ℕ → ℕ → DateAnswer

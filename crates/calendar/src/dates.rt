@@ -12,7 +12,7 @@ ghost use mathlib.Core.Bool.{true};
 ghost use Prim.Native.Nat.{_≤_, _<_, min};
 ghost use Rattle.months.specs.Months.{months, Starts};
 ghost use Rattle.paper.specs.Calls.{lastDay};
-ghost use Rattle.calendar.specs.Dates.{isDate, monthIndex, dateIn, monthOn, numberAnswer, dateAnswer};
+ghost use Rattle.calendar.specs.Dates.{isDate, monthIndex, dateIn, monthOn, dayNumberAnswer, dateAnswer};
 ghost use Rattle.calendar.specs.Next.{dayWithin, numbered, nextAnswer};
 
 const FIRST_YEAR: u32 = 2000;
@@ -77,7 +77,7 @@ fn month_on(starts: &[u32], day: u32) -> usize
 
 // A date with its day number, from 0 to 146,096.
 pub fn day_number(year: u32, month: u32, day: u32) -> DateAnswer
-    ensures { λ r. ⌜ r ≡ numberAnswer year month day ⌝ }
+    ensures { λ r. ⌜ r ≡ dayNumberAnswer year month day ⌝ }
 {
     if !is_date(year, month, day) {
         return DateAnswer::Refused(DateRefusal::BadDate);

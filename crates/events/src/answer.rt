@@ -20,7 +20,7 @@ pub const LINE_FEED: u8 = b'\n';
 const BAD_LINE: u32 = 13;
 
 // What an event asks with its numbers is performed, and the reply printed.
-fn run(book: &mut [u32], event: Event, numbers: &[u32], out: &mut [u8], at: usize) -> usize
+fn run_event(book: &mut [u32], event: Event, numbers: &[u32], out: &mut [u8], at: usize) -> usize
     requires { ⌜ at + answerRoom ≤ length (now out) ⌝ }
     ensures { λ r. ⌜ now (book .exit) ≡ eventBook (now (book .entry)) event (now (numbers .entry)) ⌝ }
     ensures { λ r. ⌜ Wrote (now (out .entry)) at (eventSays (now (book .entry)) event (now (numbers .entry))) (now (out .exit)) r ⌝ }
@@ -42,7 +42,7 @@ fn say_line(book: &mut [u32], line: &[u8], out: &mut [u8], at: usize) -> usize
     let count = told.count;
     match said {
         Said::BadLine => answer_number(out, at, BAD_LINE),
-        Said::Names(event) => run(book, event, &numbers[..count], out, at),
+        Said::Names(event) => run_event(book, event, &numbers[..count], out, at),
     }
 }
 

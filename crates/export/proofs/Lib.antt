@@ -1,2 +1,2 @@
-pub mod OutLaws
 pub mod GreaterLaws
+pub mod Unique

@@ -1,72 +1,42 @@
 // The register as C calls it: each function makes one call and gives the number of its answer. include/depot_register.h declares them.
-pub mod dates;
-pub mod out;
+pub mod days;
+pub mod frames;
+pub mod moves;
 
-use crate::out::fill;
 use book::parts::wide;
-use calls::perform::perform;
+use calls::reply::answered;
 use events::answer::answer_line;
+use holders::tell_who;
 use order::record::MOST_DEPOTS;
 use order::record::exceeds;
-use paper::answer::Outcome;
-use paper::answer::Reply;
+use paper::answer::Payload;
 use paper::number::number_in;
-use paper::request::Request;
+use refresh::refresh;
 use reply::ANSWER_ROOM;
+use setup::setup;
+use take::take;
+use telling::tell_grams;
+use telling::tell_read;
+use telling::tell_write;
+use tick::tick;
 use whole::is_fit;
 ghost use mathlib.Core.Path.{_≡_};
-ghost use mathlib.Core.List.{[]};
 ghost use lib.Dec.{leb};
 ghost use lib.ListN.{length};
 ghost use lib.Seq.{sets};
 ghost use Rattle.loops.specs.Loops.{pick};
 ghost use Rattle.fit.specs.Fit.{fit};
 ghost use Rattle.paper.specs.Calls.{read, write, tick, take, refresh};
-ghost use Rattle.paper.specs.Answers.{onPaper, Holds};
 ghost use Rattle.upkeep.specs.Requests.{setup, call, numberAt, replyTo, bookAfter};
-ghost use Rattle.calls.specs.Performed.{asked};
+ghost use Rattle.room.specs.Room.{noRoom, inRoom, filled};
+ghost use Rattle.card.specs.Card.{gramsAnswer, gramsNumber};
+ghost use Rattle.telling.specs.Told.{readWords, writeWords, gramsWords, wordsOf, gramsOut};
+ghost use Rattle.who.specs.Who.{whoTold};
+ghost use Rattle.holders.specs.Told.{whoWords, toldNumber, toldOut};
 ghost use Rattle.reply.specs.Printed.{answerRoom};
 ghost use Rattle.events.specs.Answering as events;
 ghost use Rattle.events.specs.Answering.{answerTo};
-ghost use Rattle.export.specs.Numbers.{filled, wordsOf, greaterNumber};
-
-// A request is performed; the number of its reply comes back.
-fn ask(book: &mut [u32], request: Request, homes: &[u32]) -> u32
-    ensures { λ r. ⌜ r ≡ numberAt (now (book .entry)) (asked request (now (homes .entry))) ⌝ }
-    ensures { λ r. ⌜ now (book .exit) ≡ bookAfter (now (book .entry)) (asked request (now (homes .entry))) ⌝ }
-{
-    let reply = perform(book, request, homes);
-    number_in(reply)
-}
-
-// What a reply tells stands in `out`.
-fn tell(out: &mut [u32], reply: Reply)
-    requires { ⌜ Holds (onPaper reply) (reply .vector) (reply .depots) ⌝ }
-    ensures { λ r. ⌜ now (out .exit) ≡ filled (wordsOf (onPaper reply)) (now (out .entry)) ⌝ }
-{
-    let outcome = reply.outcome;
-    let v = reply.vector;
-    match outcome {
-        Outcome::Value(value) => fill(out, &[1, value, v[0], v[1], v[2], v[3]]),
-        Outcome::Unwritten => fill(out, &[0, 0, v[0], v[1], v[2], v[3]]),
-        Outcome::Current(stamp) => fill(out, &[stamp, 1]),
-        Outcome::Superseded(stamp) => fill(out, &[stamp, 0]),
-        Outcome::Done => {}
-        Outcome::Refused(_) => {}
-    }
-}
-
-// A read or a write is performed; what the reply tells stands in `out`, and its number comes back.
-fn ask_telling(book: &mut [u32], request: Request, out: &mut [u32]) -> u32
-    ensures { λ r. ⌜ r ≡ numberAt (now (book .entry)) (asked request []) ⌝ }
-    ensures { λ r. ⌜ now (book .exit) ≡ bookAfter (now (book .entry)) (asked request []) ⌝ }
-    ensures { λ r. ⌜ now (out .exit) ≡ filled (wordsOf (replyTo (now (book .entry)) (asked request []))) (now (out .entry)) ⌝ }
-{
-    let homes = [0u32; 0];
-    let reply = perform(book, request, &homes);
-    tell(out, reply);
-    number_in(reply)
-}
+ghost use Rattle.export.specs.Numbers.{greaterNumber};
 
 #[no_mangle]
 pub extern "C" fn depot_setup(
@@ -80,13 +50,8 @@ pub extern "C" fn depot_setup(
     ensures { λ r. ⌜ r ≡ numberAt (now (book .entry)) (setup (record { depots = depots; shelves = shelves; bearings = bearings; crews = crews }) (now (homes .entry))) ⌝ }
     ensures { λ r. ⌜ now (book .exit) ≡ bookAfter (now (book .entry)) (setup (record { depots = depots; shelves = shelves; bearings = bearings; crews = crews }) (now (homes .entry))) ⌝ }
 {
-    let request = Request::Setup {
-        depots,
-        shelves,
-        bearings,
-        crews,
-    };
-    ask(book, request, homes)
+    let reply = answered(setup(book, depots, shelves, bearings, crews, homes));
+    number_in(reply)
 }
 
 #[no_mangle]
@@ -94,8 +59,8 @@ pub extern "C" fn depot_tick(book: &mut [u32], depot: u32, shelf: u32) -> u32
     ensures { λ r. ⌜ r ≡ numberAt (now (book .entry)) (call (tick depot shelf)) ⌝ }
     ensures { λ r. ⌜ now (book .exit) ≡ bookAfter (now (book .entry)) (call (tick depot shelf)) ⌝ }
 {
-    let request = Request::Tick { depot, shelf };
-    ask(book, request, &[0u32; 0])
+    let reply = answered(tick(book, depot, shelf));
+    number_in(reply)
 }
 
 #[no_mangle]
@@ -103,8 +68,8 @@ pub extern "C" fn depot_take(book: &mut [u32], depot: u32, shelf: u32, from: u32
     ensures { λ r. ⌜ r ≡ numberAt (now (book .entry)) (call (take depot shelf from)) ⌝ }
     ensures { λ r. ⌜ now (book .exit) ≡ bookAfter (now (book .entry)) (call (take depot shelf from)) ⌝ }
 {
-    let request = Request::Take { depot, shelf, from };
-    ask(book, request, &[0u32; 0])
+    let reply = answered(take(book, depot, shelf, from));
+    number_in(reply)
 }
 
 #[no_mangle]
@@ -112,18 +77,18 @@ pub extern "C" fn depot_refresh(book: &mut [u32], depot: u32, shelf: u32) -> u32
     ensures { λ r. ⌜ r ≡ numberAt (now (book .entry)) (call (refresh depot shelf)) ⌝ }
     ensures { λ r. ⌜ now (book .exit) ≡ bookAfter (now (book .entry)) (call (refresh depot shelf)) ⌝ }
 {
-    let request = Request::Refresh { depot, shelf };
-    ask(book, request, &[0u32; 0])
+    let reply = answered(refresh(book, depot, shelf));
+    number_in(reply)
 }
 
 #[no_mangle]
 pub extern "C" fn depot_read(book: &mut [u32], crew: u32, bearing: u32, out: &mut [u32]) -> u32
-    ensures { λ r. ⌜ r ≡ numberAt (now (book .entry)) (call (read crew bearing)) ⌝ }
-    ensures { λ r. ⌜ now (book .exit) ≡ bookAfter (now (book .entry)) (call (read crew bearing)) ⌝ }
-    ensures { λ r. ⌜ now (out .exit) ≡ filled (wordsOf (replyTo (now (book .entry)) (call (read crew bearing)))) (now (out .entry)) ⌝ }
+    ensures { λ r. ⌜ r ≡ inRoom readWords (now (out .entry)) (numberAt (now (book .entry)) (call (read crew bearing))) noRoom ⌝ }
+    ensures { λ r. ⌜ now (book .exit) ≡ inRoom readWords (now (out .entry)) (bookAfter (now (book .entry)) (call (read crew bearing))) (now (book .entry)) ⌝ }
+    ensures { λ r. ⌜ now (out .exit)
+        ≡ inRoom readWords (now (out .entry)) (filled (wordsOf (replyTo (now (book .entry)) (call (read crew bearing)))) (now (out .entry))) (now (out .entry)) ⌝ }
 {
-    let request = Request::Read { crew, bearing };
-    ask_telling(book, request, out)
+    tell_read(book, crew, bearing, out)
 }
 
 #[no_mangle]
@@ -132,18 +97,39 @@ pub extern "C" fn depot_write(
     crew: u32,
     bearing: u32,
     value: u32,
+    diameter: u32,
+    width: u32,
     out: &mut [u32],
 ) -> u32
-    ensures { λ r. ⌜ r ≡ numberAt (now (book .entry)) (call (write crew bearing value)) ⌝ }
-    ensures { λ r. ⌜ now (book .exit) ≡ bookAfter (now (book .entry)) (call (write crew bearing value)) ⌝ }
-    ensures { λ r. ⌜ now (out .exit) ≡ filled (wordsOf (replyTo (now (book .entry)) (call (write crew bearing value)))) (now (out .entry)) ⌝ }
+    ensures { λ r. ⌜ r ≡ inRoom writeWords (now (out .entry)) (numberAt (now (book .entry)) (call (write crew bearing (record { value = value; diameter = diameter; width = width })))) noRoom ⌝ }
+    ensures { λ r. ⌜ now (book .exit)
+        ≡ inRoom writeWords (now (out .entry)) (bookAfter (now (book .entry)) (call (write crew bearing (record { value = value; diameter = diameter; width = width })))) (now (book .entry)) ⌝ }
+    ensures { λ r. ⌜ now (out .exit)
+        ≡ inRoom writeWords (now (out .entry)) (filled (wordsOf (replyTo (now (book .entry)) (call (write crew bearing (record { value = value; diameter = diameter; width = width }))))) (now (out .entry))) (now (out .entry)) ⌝ }
 {
-    let request = Request::Write {
-        crew,
-        bearing,
+    let payload = Payload {
         value,
+        diameter,
+        width,
     };
-    ask_telling(book, request, out)
+    tell_write(book, crew, bearing, payload, out)
+}
+
+// The grams of the card of two words: the low and the high word of their bits.
+#[no_mangle]
+pub extern "C" fn depot_grams(diameter: u32, width: u32, out: &mut [u32]) -> u32
+    ensures { λ r. ⌜ r ≡ inRoom gramsWords (now (out .entry)) (gramsNumber (gramsAnswer diameter width)) noRoom ⌝ }
+    ensures { λ r. ⌜ now (out .exit) ≡ inRoom gramsWords (now (out .entry)) (filled (gramsOut (gramsAnswer diameter width)) (now (out .entry))) (now (out .entry)) ⌝ }
+{
+    tell_grams(diameter, width, out)
+}
+
+#[no_mangle]
+pub extern "C" fn depot_who_has(book: &[u32], depot: u32, bearing: u32, out: &mut [u32]) -> u32
+    ensures { λ r. ⌜ r ≡ inRoom whoWords (now (out .entry)) (toldNumber (whoTold (now (book .entry)) depot bearing)) noRoom ⌝ }
+    ensures { λ r. ⌜ now (out .exit) ≡ inRoom whoWords (now (out .entry)) (toldOut (whoTold (now (book .entry)) depot bearing) (now (out .entry))) (now (out .entry)) ⌝ }
+{
+    tell_who(book, depot, bearing, out)
 }
 
 #[no_mangle]

@@ -8,7 +8,8 @@ use lib.Dec.{leb, ltb, eqb}
 use lib.ListN.{length}
 use Rattle.loops.specs.Loops.{every}
 use Rattle.order.specs.Vector.{Vec, covered, zeros}
-use Rattle.order.specs.Record.{mostDepots, bearingOf, originOf, vectorOf}
+use Rattle.order.specs.Record.{mostDepots, bearingOf, diameterOf, widthOf, originOf, vectorOf}
+use Rattle.card.specs.Card.{cardFit}
 use Rattle.book.specs.declared.parts.Counts.{Counts}
 use Rattle.book.specs.Layout.{bookWords, end, mostShelves, mostCrews, bearingRoom, linkRoom, countsOf, home, crewVector, clock, stable, seen, linkOf, held, taken, slot, stored}
 use Rattle.book.specs.Layout.{copyKind, beatKind, kindOf, beatOf, recordOf}
@@ -63,9 +64,10 @@ seenFit n l d s = othersInRange (n .depots) d (seen l d s)
 unfoldable pub shelfFit : Counts → List ℕ → ℕ → ℕ → Bool
 shelfFit n l d s = clockFit l d s && (stableFit n l d s && seenFit n l d s)
 
--- a version: its vector is in range, its origin is a depot, and its stamp, which is its origin's entry, is above 0
+-- a version: its vector is in range, its origin is a depot, its stamp, which is its origin's entry, is above 0, and its card is fit
 unfoldable pub versionFit : Counts → List ℕ → Bool
-versionFit n r = inRange (n .depots) (vectorOf r) && (ltb (originOf r) (n .depots) && ltb 0 (vectorOf r (originOf r)))
+versionFit n r =
+    inRange (n .depots) (vectorOf r) && (ltb (originOf r) (n .depots) && (ltb 0 (vectorOf r (originOf r)) && cardFit (diameterOf r) (widthOf r)))
 
 -- what a link carries: a version whose origin is the link's depot, and whose bearing is one of the link's shelf
 unfoldable pub carriedFit : Counts → ℕ → ℕ → List ℕ → Bool

@@ -15,10 +15,9 @@ use Rattle.loops.proofs.BoolLaws.{and-left, and-right, or-next}
 use Rattle.loops.proofs.LoopLaws.{every-at}
 use Rattle.book.specs.Words.{part}
 use Rattle.book.specs.Layout.{countsOf, linkOf, held, taken, slot, slotAt}
-use Rattle.fit.specs.Fit.{messageFit, copyFit, headFit, messagesFit, linkFit}
-use Rattle.versions.proofs.MessageLaws.{link-head}
-use Rattle.named.specs.Named.{baseFit}
-use Rattle.named.proofs.NamedLaws.{base-open}
+use Rattle.fit.specs.Fit.{messageFit, headFit}
+use Rattle.named.specs.Named.{waitingFit, baseFit}
+use Rattle.named.proofs.NamedLaws.{base-open, waiting-room}
 use Rattle.links.specs.Send.{took}
 use Rattle.paper.specs.Calls.{first}
 use Rattle.register.proofs.Numbers.{first-passed, or-none}
@@ -39,7 +38,7 @@ pub record Found (l : List ℕ) (d s from count : ℕ) : Type 0 where
   pub depot : d < countsOf l .depots
   pub sender : from < countsOf l .depots
   pub shelf : s < countsOf l .shelves
-  pub link : linkFit (countsOf l) l s from (linkOf s from d) ≡ true
+  pub link : waitingFit (countsOf l) l s from (linkOf s from d) ≡ true
   pub some : 1 ≤ count
   pub few : count ≤ 16
   pub waits : taken l (linkOf s from d) + count ≤ held l (linkOf s from d)
@@ -61,7 +60,7 @@ writer-open l d s from count room h =
     let y = or-none (ltb 16 count) _ (z .1) in
     let r : linkRead l d s from ≡ true = not-false _ (a .0) in
     let p : baseFit l ≡ true = and-left (baseFit l) _ r in
-    let v : eqb d from || linkFit (countsOf l) l s from (linkOf s from d) ≡ true = sym (read-link l d s from count room p hd ho hs) ∙ r in
+    let v : eqb d from || waitingFit (countsOf l) l s from (linkOf s from d) ≡ true = sym (read-link l d s from count room p hd ho hs) ∙ r in
     let w : taken l (linkOf s from d) < held l (linkOf s from d) = leb-false _ _ (g .0) in
     let under : count ≤ held l (linkOf s from d) - taken l (linkOf s from d) = ltb-false (held l (linkOf s from d) - taken l (linkOf s from d)) count (y .1) in
     record {
@@ -94,14 +93,14 @@ pub record Carried (l : List ℕ) (d s from count serial : ℕ) : Type 0 where
       ≡ standingIn (routeIn l d s from) (times count (λ i b. took d s from b) l)
 
 pub carried : (l : List ℕ) (d s from count serial room : ℕ) → Below wordLimit l → serial < halfLimit → writerNumber l d s from count room ≡ 0 → Carried l d s from count serial
-unfolding linkFit messagesFit
+unfolding waitingFit
 carried l d s from count serial room b n h =
     let w = writer-open l d s from count room h in
     let ready = route-ready l d s from (w .base) (w .depot) (w .sender) (w .shelf) in
     let q : ℕ = linkOf s from d in
-    let fits : (i : ℕ) → i < count → messageFit (countsOf l) s from (slot l q (taken l q + i)) ≡ true = λ i k. every-at (held l q - taken l q) _ (and-right (every (taken l q) (λ j. copyFit (countsOf l) s from (slot l q j))) _ (and-right (headFit l q) _ (w .link))) i (omega (arith, w .waits)) in
+    let fits : (i : ℕ) → i < count → messageFit (countsOf l) s from (slot l q (taken l q + i)) ≡ true = λ i k. every-at (held l q - taken l q) _ (and-right (headFit l q) _ (w .link)) i (omega (arith, w .waits)) in
     record {
       accepted = reads-back (routeIn l d s from) serial count (untaken l d s from) (ready-known _ ready) n
           (record { some = w .some; few = w .few; fit = fits; words = λ i k. part-words l (slotAt q (taken l q + i)) 10 b });
-      taken = sym (stands-in (routeIn l d s from) l count ready (base-open l (w .base) .full) (link-head (countsOf l) l s from q (w .link) .0) (w .waits));
+      taken = sym (stands-in (routeIn l d s from) l count ready (base-open l (w .base) .full) (waiting-room (countsOf l) l s from q (w .link)) (w .waits));
     }

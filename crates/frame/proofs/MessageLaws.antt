@@ -296,6 +296,7 @@ module _ (r : Route) (m : List ℕ) (k : r .counts .depots ≤ 4) where
           entries = λ x h. rw (same-entry x h) (v .entries x h);
           origin = rw o below;
           stamp = rw (o, same-entry (r .from .0) below) (subst (λ (x : ℕ). 0 < vectorOf (recordOf m) x) (c .origin) (v .stamp));
+          card = rw (same-word 2 (lit< tt), same-word 3 (lit< tt)) (v .card);
         };
         origin = o;
         bearing = rw (same-word 0 (lit< tt)) (c .bearing);

@@ -12,8 +12,8 @@ use borrow.Author.Tests.{eq-eqb, ne-eqb, le-leb, lt-leb, le-ltb, lt-ltb}
 use Rattle.loops.specs.Loops.{pick}
 use Rattle.loops.proofs.BoolLaws.{pick-true, pick-false, and-next, or-next, or-stop, not-failed}
 use Rattle.book.specs.Layout.{slotWords, countsOf, linkOf, held, taken}
-use Rattle.fit.specs.Fit.{Within, linkFit}
-use Rattle.named.specs.Named.{baseFit}
+use Rattle.fit.specs.Fit.{Within}
+use Rattle.named.specs.Named.{waitingFit, baseFit}
 use Rattle.named.proofs.NamedLaws.{base-open}
 use Rattle.paper.specs.Calls.{first}
 use Rattle.register.specs.Checks.{linkNumber}
@@ -124,7 +124,7 @@ module _ (l : List ℕ) (d s from count room : ℕ) where
   writer-bad h = three-bad (baseFit l) (leb (countsOf l .depots) d) (leb (countsOf l .depots) from) (leb (countsOf l .shelves) s) _ _ _ _ h
 
   module _ (b : baseFit l ≡ true) (hd : d < countsOf l .depots) (ho : from < countsOf l .depots) (hs : s < countsOf l .shelves) where
-    pub read-link : linkRead l d s from ≡ eqb d from || linkFit (countsOf l) l s from (linkOf s from d)
+    pub read-link : linkRead l d s from ≡ eqb d from || waitingFit (countsOf l) l s from (linkOf s from d)
     unfolding linkRead
     read-link = and-next _ b ∙ or-next _ (lt-leb _ _ hd) ∙ or-next _ (lt-leb _ _ ho) ∙ or-next _ (lt-leb _ _ hs)
 
@@ -142,14 +142,14 @@ module _ (l : List ℕ) (d s from count room : ℕ) where
     writer-same q = past (read-link ∙ or-stop _ (eq-eqb d from q)) ∙ first-stop _ _ _ (eq-eqb d from q)
 
     module _ (q : d ≡ from → ⊥) where
-      other : linkRead l d s from ≡ linkFit (countsOf l) l s from (linkOf s from d)
+      other : linkRead l d s from ≡ waitingFit (countsOf l) l s from (linkOf s from d)
       other = read-link ∙ or-next _ (ne-eqb d from q)
 
-      pub writer-book : linkFit (countsOf l) l s from (linkOf s from d) ≡ false → writerNumber l d s from count room ≡ 1
+      pub writer-book : waitingFit (countsOf l) l s from (linkOf s from d) ≡ false → writerNumber l d s from count room ≡ 1
       unfolding writerNumber
       writer-book h = first-stop _ _ _ (not-failed (other ∙ h))
 
-      module _ (g : linkFit (countsOf l) l s from (linkOf s from d) ≡ true) where
+      module _ (g : waitingFit (countsOf l) l s from (linkOf s from d) ≡ true) where
         pub writer-empty : held l (linkOf s from d) ≤ taken l (linkOf s from d) → writerNumber l d s from count room ≡ 7
         writer-empty h = past (other ∙ g) ∙ first-next _ _ _ (ne-eqb d from q) ∙ first-stop _ _ _ (le-leb _ _ h)
 

@@ -6,7 +6,9 @@ use mathlib.Core.Path.{_≡_, refl}
 use mathlib.Core.List.{List, [], _∷_, _++_}
 use lib.Dec.{lit<, lit≤}
 use lib.ListN.{getD}
+use lib.Ieee.{ofBits, lt, le}
 use Rattle.loops.specs.Loops.{every, pick}
+use Rattle.card.specs.Card.{cardFit, lengthFit}
 use Rattle.book.specs.Words.{part}
 use Rattle.book.specs.declared.parts.Counts.{Counts}
 use Rattle.fit.specs.Fit.{between, inRange, versionFit, carriedFit, copyFit, beatFit, messageFit}
@@ -47,7 +49,8 @@ pub written : Written
 unfolding two waiting copyFrame bothFrame beatFrame encodeFrame headOf offsetsOf messagesOf whom placeOf sizeTo sizeOf messageBytes beatBytes copyBytes sentWord halfBytes wordBytes joined pick
 written = record { one = refl; both = refl; heartbeat = refl }
 
--- read where a serial is expected: OLD up to 32,767 behind, a GAP from there on; the wrap; a byte more, an offset that is not so, another shelf's bearing, a stamp of 0
+-- read where a serial is expected: OLD up to 32,767 behind, a GAP from there on; the wrap; a byte more, an offset that is not so, another shelf's bearing, a stamp of 0, a
+-- diameter of 0
 pub record Read : Type 0 where
   pub done : decodeFrame (two 0) 0 copyFrame ≡ accepted 1 (waiting 0)
   pub both : decodeFrame (two 0) 65535 bothFrame ≡ accepted 2 (waiting 0 ++ beat 2)
@@ -60,12 +63,13 @@ pub record Read : Type 0 where
   pub offset : decodeFrame (two 0) 0 (65 ∷ 1 ∷ 0 ∷ 0 ∷ 7 ∷ 0 ∷ 1 ∷ 0 ∷ 20 ∷ 0 ∷ 0 ∷ 0 ∷ 0 ∷ 0 ∷ 128 ∷ 63 ∷ 0 ∷ 0 ∷ 128 ∷ 63 ∷ 1 ∷ 0 ∷ 0 ∷ 0 ∷ 0 ∷ 0 ∷ 0 ∷ 0 ∷ []) ≡ bad
   pub bearing : decodeFrame (two 0) 0 (65 ∷ 1 ∷ 0 ∷ 0 ∷ 6 ∷ 0 ∷ 1 ∷ 1 ∷ 20 ∷ 0 ∷ 0 ∷ 0 ∷ 0 ∷ 0 ∷ 128 ∷ 63 ∷ 0 ∷ 0 ∷ 128 ∷ 63 ∷ 1 ∷ 0 ∷ 0 ∷ 0 ∷ 0 ∷ 0 ∷ 0 ∷ 0 ∷ []) ≡ bad
   pub stamp : decodeFrame (two 0) 0 (65 ∷ 1 ∷ 0 ∷ 0 ∷ 6 ∷ 0 ∷ 1 ∷ 0 ∷ 20 ∷ 0 ∷ 0 ∷ 0 ∷ 0 ∷ 0 ∷ 128 ∷ 63 ∷ 0 ∷ 0 ∷ 128 ∷ 63 ∷ 0 ∷ 0 ∷ 0 ∷ 0 ∷ 0 ∷ 0 ∷ 0 ∷ 0 ∷ []) ≡ bad
+  pub card : decodeFrame (two 0) 0 (65 ∷ 1 ∷ 0 ∷ 0 ∷ 6 ∷ 0 ∷ 1 ∷ 0 ∷ 20 ∷ 0 ∷ 0 ∷ 0 ∷ 0 ∷ 0 ∷ 0 ∷ 0 ∷ 0 ∷ 0 ∷ 128 ∷ 63 ∷ 1 ∷ 0 ∷ 0 ∷ 0 ∷ 0 ∷ 0 ∷ 0 ∷ 0 ∷ []) ≡ bad
   pub other-link : decodeFrame (two 0) 258 beatFrame ≡ bad
   pub none : decodeFrame (two 0) 0 [] ≡ bad
 
 pub read : Read
 unfolding two waiting copyFrame bothFrame beatFrame decodeFrame bySerial isExpected isOld behind formed headRight messagesRight messageRight messageAt copyAt entryAt startIn bodyIn sizeOf whom
-    halfAt wordAt wordOf joined every pick between messageFit beatFit copyFit carriedFit versionFit inRange part
+    halfAt wordAt wordOf joined every pick between messageFit beatFit copyFit carriedFit versionFit inRange cardFit lengthFit lt le ofBits part
 read =
     record {
       done = refl;
@@ -79,6 +83,7 @@ read =
       offset = refl;
       bearing = refl;
       stamp = refl;
+      card = refl;
       other-link = refl;
       none = refl;
     }

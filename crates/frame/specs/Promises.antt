@@ -10,8 +10,8 @@ use lib.ListN.{length}
 use Rattle.loops.specs.Loops.{pick}
 use Rattle.book.specs.Words.{put}
 use Rattle.book.specs.Layout.{mostShelves, linkRoom, slotWords, countsOf, linkOf, held, taken, slot}
-use Rattle.fit.specs.Fit.{Within, linkFit}
-use Rattle.named.specs.Named.{baseFit}
+use Rattle.fit.specs.Fit.{Within}
+use Rattle.named.specs.Named.{waitingFit, baseFit}
 use Rattle.paper.specs.Calls.{first}
 use Rattle.paper.specs.Answers.{numberOf}
 use Rattle.frame.specs.declared.FrameRefusal.{FrameRefusal}
@@ -57,12 +57,13 @@ pub record Ready (r : Route) : Type 0 where
 abbrev pub untaken : List ℕ → ℕ → ℕ → ℕ → ℕ → List ℕ
 untaken l d s from i = slot l (linkOf s from d) (taken l (linkOf s from d) + i)
 
--- the parts that the writer reads: the length, the counts, the homes and the link. A number out of range names no link, nor does a depot with itself
+-- the parts that the writer reads: the length, the counts, the homes, and of the link the head and all that waits. A number out of range names no link, nor
+-- does a depot with itself
 unfoldable pub linkRead : List ℕ → ℕ → ℕ → ℕ → Bool
 linkRead l d s from =
     baseFit l
     && (leb (countsOf l .depots) d
-    || (leb (countsOf l .depots) from || (leb (countsOf l .shelves) s || (eqb d from || linkFit (countsOf l) l s from (linkOf s from d)))))
+    || (leb (countsOf l .depots) from || (leb (countsOf l .shelves) s || (eqb d from || waitingFit (countsOf l) l s from (linkOf s from d)))))
 
 -- a count that is 0, over 16 or over what stands untaken
 unfoldable pub badCount : ℕ → ℕ → Bool

@@ -7,6 +7,7 @@ use book::layout::SLOT_STAMP;
 use book::layout::SLOT_WORDS;
 use book::numbers::Depot;
 use book::numbers::Shelf;
+use book::parts::Counts;
 use book::parts::counts_of;
 use book::parts::held_of;
 use book::parts::taken_of;
@@ -19,7 +20,8 @@ use frame::whom_of;
 use paper::answer::Refusal;
 use register::check::LinkCheck;
 use register::check::check_link;
-use versions::link::link_fits;
+use versions::link::head_fits;
+use versions::link::waiting_fit;
 use wire::low;
 use wire::put_half;
 use wire::put_word;
@@ -30,7 +32,7 @@ ghost use lib.ListN.{length};
 ghost use Rattle.order.specs.Record.{mostDepots};
 ghost use Rattle.book.specs.Words.{put};
 ghost use Rattle.book.specs.Layout.{bookWords, links, linkRoom, slotWords, countsOf, kindOf, slot};
-ghost use Rattle.named.specs.Named.{baseFit};
+ghost use Rattle.named.specs.Named.{waitingFit, baseFit};
 ghost use Rattle.wire.specs.Wire.{wordBytes, joined};
 ghost use Rattle.frame.specs.Frame.{bodyAt, sizeOf, sentWord, messageBytes, sizeTo, placeOf, headOf, offsetsOf, messagesOf, encodeFrame};
 ghost use Rattle.frame.specs.Promises.{Ready, badCount, Written};
@@ -162,6 +164,19 @@ fn put_frame(
     put_messages(out, book, q, taken, count, depots);
 }
 
+// Whether the head of a link and all that waits on it are fit.
+fn waiting_fits(book: &[u32], n: Counts, s: Shelf, from: Depot, q: Link) -> bool
+    requires { ⌜ (length (now book) ≡ bookWords) × (n .depots ≤ mostDepots) × (0 < n .shelves) × (q .0 < links) ⌝ }
+    ensures { λ r. ⌜ r ≡ waitingFit n (now (book .entry)) (s .0) (from .0) (q .0) ⌝ }
+{
+    if !head_fits(book, q) {
+        return false;
+    }
+    let taken = taken_of(book, q);
+    let messages = held_of(book, q);
+    waiting_fit(book, n, s, from, q, taken, messages - taken)
+}
+
 // Whether a count is one of a frame, where so many wait.
 fn is_count(count: usize, waiting: usize) -> bool
     ensures { λ r. ⌜ r ≡ not (badCount count waiting) ⌝ }
@@ -193,7 +208,7 @@ fn write_at(
     }
     let n = counts_of(book);
     let q = Link::between(s, from, d);
-    if !link_fits(book, n, s, from, q) {
+    if !waiting_fits(book, n, s, from, q) {
         return FrameAnswer::Refused(FrameRefusal::Link(Refusal::BadBook));
     }
     let messages = held_of(book, q);

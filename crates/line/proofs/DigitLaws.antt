@@ -13,7 +13,7 @@ use lib.ListN.{length, getD, drop, length-drop, drop-of-length-le}
 use lib.Seq.{drop-cons}
 use borrow.Author.Tests.{le-leb, lt-leb}
 use Rattle.loops.proofs.BoolLaws.{decided, and-intro, pick-true, pick-false}
-use Rattle.line.specs.Number.{isDigit, run, valueFrom}
+use Rattle.line.specs.Number.{isDigit, digitRun, valueFrom}
 
 pub digit-yes : (b : ℕ) → 48 ≤ b → b < 58 → isDigit b ≡ true
 unfolding isDigit
@@ -28,12 +28,12 @@ unfolding isDigit
 digit-high b p = ap (λ (t : Bool). leb 48 b && t) (lt-leb b 57 p) ∙ and-false (leb 48 b)
 
 -- at a digit
-pub run-digit : (b : ℕ) (l : List ℕ) → isDigit b ≡ true → run (b ∷ l) ≡ suc (run l)
-unfolding run
+pub run-digit : (b : ℕ) (l : List ℕ) → isDigit b ≡ true → digitRun (b ∷ l) ≡ suc (digitRun l)
+unfolding digitRun
 run-digit b l d = pick-true _ _ d
 
-pub run-other : (b : ℕ) (l : List ℕ) → isDigit b ≡ false → run (b ∷ l) ≡ 0
-unfolding run
+pub run-other : (b : ℕ) (l : List ℕ) → isDigit b ≡ false → digitRun (b ∷ l) ≡ 0
+unfolding digitRun
 run-other b l d = pick-false _ _ d
 
 pub value-digit : (v b : ℕ) (l : List ℕ) → isDigit b ≡ true → valueFrom v (b ∷ l) ≡ valueFrom (v * 10 + (b - 48)) l
@@ -45,8 +45,8 @@ unfolding valueFrom
 value-other v b l d = pick-false _ _ d
 
 -- no more digits than bytes
-pub run-le : (l : List ℕ) → run l ≤ length l
-unfolding run
+pub run-le : (l : List ℕ) → digitRun l ≤ length l
+unfolding digitRun
 run-le [] = omega arith
 run-le (b ∷ l) =
     let h = run-le l in
@@ -60,15 +60,15 @@ module _ (s : List ℕ) (i : ℕ) where
   pub from-here : i < length s → drop i s ≡ getD s i 0 ∷ drop (i + 1) s
   from-here h = rw (add-one, drop-cons s i 0)
 
-  pub run-more : i < length s → isDigit (getD s i 0) ≡ true → run (drop i s) ≡ run (drop (i + 1) s) + 1
-  run-more h d = ap run (from-here h) ∙ run-digit _ _ d ∙ sym (add-one _)
+  pub run-more : i < length s → isDigit (getD s i 0) ≡ true → digitRun (drop i s) ≡ digitRun (drop (i + 1) s) + 1
+  run-more h d = ap digitRun (from-here h) ∙ run-digit _ _ d ∙ sym (add-one _)
 
-  pub run-stop : i < length s → isDigit (getD s i 0) ≡ false → run (drop i s) ≡ 0
-  run-stop h d = ap run (from-here h) ∙ run-other _ _ d
+  pub run-stop : i < length s → isDigit (getD s i 0) ≡ false → digitRun (drop i s) ≡ 0
+  run-stop h d = ap digitRun (from-here h) ∙ run-other _ _ d
 
-  pub run-end : length s ≤ i → run (drop i s) ≡ 0
-  unfolding run
-  run-end h = ap run (drop-of-length-le s h)
+  pub run-end : length s ≤ i → digitRun (drop i s) ≡ 0
+  unfolding digitRun
+  run-end h = ap digitRun (drop-of-length-le s h)
 
   pub value-more : (v : ℕ) → i < length s → isDigit (getD s i 0) ≡ true → valueFrom v (drop i s) ≡ valueFrom (v * 10 + (getD s i 0 - 48)) (drop (i + 1) s)
   value-more v h d = ap (valueFrom v) (from-here h) ∙ value-digit v _ _ d
@@ -81,10 +81,10 @@ module _ (s : List ℕ) (i : ℕ) where
   value-end v h = ap (valueFrom v) (drop-of-length-le s h)
 
   -- the digits from i on lie within the text
-  pub run-within : i + run (drop i s) ≤ length s + i
+  pub run-within : i + digitRun (drop i s) ≤ length s + i
   run-within = let h = run-le (drop i s) in let e = length-drop i s in omega arith
 
-  pub run-inside : 0 < run (drop i s) → i + run (drop i s) ≤ length s
+  pub run-inside : 0 < digitRun (drop i s) → i + digitRun (drop i s) ≤ length s
   run-inside p = let h = run-le (drop i s) in let e = length-drop i s in omega arith
 
 -- k digits spell less than 10 ^ k

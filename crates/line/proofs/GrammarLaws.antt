@@ -12,8 +12,8 @@ use lib.ListN.{length, drop, take-append-drop}
 use lib.Seq.{drop-append-seam}
 use borrow.Author.Tests.{le-leb, leb-true, eqb-true}
 use Rattle.loops.proofs.BoolLaws.{decided, and-left, and-right, and-intro, eq-or-ne}
-use Rattle.line.specs.Number.{decimal, run, valueFrom, isNumber}
-use Rattle.line.specs.Grammar.{letter, spaced, inRange}
+use Rattle.line.specs.Number.{decimal, digitRun, valueFrom, isNumber}
+use Rattle.line.specs.Grammar.{letter, spaced, wordSized}
 use Rattle.line.specs.Reading.{eventOf, before, numbersIn}
 use Rattle.paper.specs.declared.request.Event.{Event}
 use Rattle.paper.specs.declared.request.Event.the-variants.{Setup, Read, Write, Tick, Take, Refresh}
@@ -25,41 +25,41 @@ use Rattle.line.proofs.SpellingLaws.{decimal-run, decimal-value, decima
 use Rattle.line.proofs.OneSpelling.{number-is-decimal}
 
 -- no digit begins what follows a number
-pub spaced-stops : (ns : List ℕ) → run (spaced ns) ≡ 0
-unfolding spaced run
+pub spaced-stops : (ns : List ℕ) → digitRun (spaced ns) ≡ 0
+unfolding spaced digitRun
 spaced-stops [] = refl
 spaced-stops (n ∷ ns) = run-other 32 (decimal n ++ spaced ns) (digit-low 32 (omega arith))
 
-pub numbers-printed : (k : ℕ) (ns : List ℕ) → length ns ≤ k → inRange ns ≡ true → numbersIn k (spaced ns) ≡ some ns
-unfolding spaced inRange before
+pub numbers-printed : (k : ℕ) (ns : List ℕ) → length ns ≤ k → wordSized ns ≡ true → numbersIn k (spaced ns) ≡ some ns
+unfolding spaced wordSized before
 numbers-printed k [] h r = numbers-nothing k
 numbers-printed zero (n ∷ ns) h r = absurd (omega arith)
 numbers-printed (suc k) (n ∷ ns) h r =
-    let small = leb-true n 4_294_967_295 (and-left (leb n 4_294_967_295) (inRange ns) r) in
+    let small = leb-true n 4_294_967_295 (and-left (leb n 4_294_967_295) (wordSized ns) r) in
     let stop = spaced-stops ns in
     numbers-right k 32 (decimal n ++ spaced ns) (decimal-is-number n (spaced ns) small stop)
     ∙ ap₂ (λ (v : ℕ) (l : List ℕ). before v (numbersIn k l)) (decimal-value n (spaced ns) small stop)
     (ap (λ (i : ℕ). drop i (decimal n ++ spaced ns)) (decimal-run n (spaced ns) small stop) ∙ drop-append-seam (decimal n) (spaced ns))
-    ∙ ap (before n) (numbers-printed k ns (omega arith) (and-right (leb n 4_294_967_295) (inRange ns) r))
+    ∙ ap (before n) (numbers-printed k ns (omega arith) (and-right (leb n 4_294_967_295) (wordSized ns) r))
 
 -- what it means that a text is read as the numbers ns, of which there is room for k
 pub record Prints (k : ℕ) (l : List ℕ) (ns : List ℕ) : Type 0 where
   pub bytes : l ≡ spaced ns
   pub not-over : length ns ≤ k
-  pub in-range : inRange ns ≡ true
+  pub in-range : wordSized ns ≡ true
 
 prints-none : (k : ℕ) (ns : List ℕ) → some [] ≡ some ns → Prints k [] ns
-unfolding spaced inRange
+unfolding spaced wordSized
 prints-none k [] e = record { bytes = refl; not-over = omega arith; in-range = refl }
 prints-none k (n ∷ ns) e = absurd (let z : _≡_ {A = ℕ} 0 1 = cc in omega arith)
 
 prints-more : (k b : ℕ) (l ns : List ℕ) (m : Option (List ℕ))
     → b ≡ 32
     → isNumber l ≡ true
-    → ((ns′ : List ℕ) → m ≡ some ns′ → Prints k (drop (run l) l) ns′)
+    → ((ns′ : List ℕ) → m ≡ some ns′ → Prints k (drop (digitRun l) l) ns′)
     → before (valueFrom 0 l) m ≡ some ns
     → Prints (suc k) (b ∷ l) ns
-unfolding before spaced inRange
+unfolding before spaced wordSized
 prints-more k b l ns none p q f e = absurd (let z : _≡_ {A = ℕ} 0 1 = cc in omega arith)
 prints-more k b l [] (some ns′) p q f e = absurd (let z : _≡_ {A = ℕ} 0 1 = cc in omega arith)
 prints-more k b l (n ∷ ns) (some ns′) p q f e =
@@ -70,7 +70,7 @@ prints-more k b l (n ∷ ns) (some ns′) p q f e =
     record {
       bytes =
           ap₂ (λ (x : ℕ) (y : List ℕ). x ∷ y) p
-          (sym (take-append-drop (run l) l) ∙ ap₂ (λ (x y : List ℕ). x ++ y) (number-is-decimal l numeral ∙ ap decimal (sym v)) (h .bytes));
+          (sym (take-append-drop (digitRun l) l) ∙ ap₂ (λ (x y : List ℕ). x ++ y) (number-is-decimal l numeral ∙ ap decimal (sym v)) (h .bytes));
       not-over = omega (arith, h .not-over);
       in-range = and-intro (le-leb n 4_294_967_295 (omega (arith, numeral .small))) (h .in-range);
     }
@@ -83,8 +83,8 @@ numbers-read (suc k) [] ns e = prints-none (suc k) ns e
 numbers-read (suc k) (b ∷ l) ns e =
     ⊎-elim
     (λ (t : eqb b 32 && isNumber l ≡ true).
-    prints-more k b l ns (numbersIn k (drop (run l) l)) (eqb-true b 32 (and-left (eqb b 32) (isNumber l) t)) (and-right (eqb b 32) (isNumber l) t)
-    (λ ns′ h. numbers-read k (drop (run l) l) ns′ h)
+    prints-more k b l ns (numbersIn k (drop (digitRun l) l)) (eqb-true b 32 (and-left (eqb b 32) (isNumber l) t)) (and-right (eqb b 32) (isNumber l) t)
+    (λ ns′ h. numbers-read k (drop (digitRun l) l) ns′ h)
     (sym (numbers-right k b l t) ∙ e))
     (λ (t : eqb b 32 && isNumber l ≡ false). absurd (let z : _≡_ {A = ℕ} 0 1 = cc (numbers-wrong (suc k) b l t, e) in omega arith))
     (decided (eqb b 32 && isNumber l))

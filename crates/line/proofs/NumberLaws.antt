@@ -12,27 +12,27 @@ use lib.ListN.{getD, drop}
 use lib.Seq.{getD-drop}
 use borrow.Author.Tests.{le-leb, lt-ltb, le-ltb, eq-eqb, ne-eqb, leb-true}
 use Rattle.loops.proofs.BoolLaws.{failed, passed, both-ways, and-intro, and-left, and-right, not-passed, not-failed, pick-true, pick-false}
-use Rattle.line.specs.Number.{run, valueFrom, spareZero, isNumber, numberAt, mostDigits, mostNumber}
+use Rattle.line.specs.Number.{digitRun, valueFrom, spareZero, isNumber, numberFrom, mostDigits, mostNumber}
 use Rattle.line.specs.declared.digits.Number.the-variants.{Bad, Good}
 
 -- what a number is, part by part
 pub record Numeral (l : List ℕ) : Type 0 where
-  pub some-digit : 1 ≤ run l
-  pub few-digits : run l ≤ mostDigits
+  pub some-digit : 1 ≤ digitRun l
+  pub few-digits : digitRun l ≤ mostDigits
   pub no-spare : spareZero l ≡ false
   pub small : valueFrom 0 l ≤ mostNumber
 
 pub number-parts : (l : List ℕ) → isNumber l ≡ true → Numeral l
 unfolding isNumber
 number-parts l h =
-    let few = leb (run l) mostDigits in
+    let few = leb (digitRun l) mostDigits in
     let own = not (spareZero l) in
     let small = leb (valueFrom 0 l) mostNumber in
-    let h₁ = and-right (leb 1 (run l)) (few && (own && small)) h in
+    let h₁ = and-right (leb 1 (digitRun l)) (few && (own && small)) h in
     let h₂ = and-right few (own && small) h₁ in
     record {
-      some-digit = leb-true 1 (run l) (and-left (leb 1 (run l)) (few && (own && small)) h);
-      few-digits = leb-true (run l) mostDigits (and-left few (own && small) h₁);
+      some-digit = leb-true 1 (digitRun l) (and-left (leb 1 (digitRun l)) (few && (own && small)) h);
+      few-digits = leb-true (digitRun l) mostDigits (and-left few (own && small) h₁);
       no-spare = not-passed (and-left own small h₂);
       small = leb-true (valueFrom 0 l) mostNumber (and-right own small h₂);
     }
@@ -46,15 +46,15 @@ number-whole l n =
 pub not-number : (l : List ℕ) → (Numeral l → ⊥) → isNumber l ≡ false
 not-number l h = failed (isNumber l) λ e. h (number-parts l e)
 
-pub spare-none : (l : List ℕ) → run l ≤ 1 → spareZero l ≡ false
+pub spare-none : (l : List ℕ) → digitRun l ≤ 1 → spareZero l ≡ false
 unfolding spareZero
-spare-none l h = rw (le-ltb 1 (run l) h)
+spare-none l h = rw (le-ltb 1 (digitRun l) h)
 
 pub spare-other : (l : List ℕ) → (getD l 0 0 ≡ 48 → ⊥) → spareZero l ≡ false
 unfolding spareZero
-spare-other l h = ap (λ (t : Bool). ltb 1 (run l) && t) (ne-eqb _ _ h) ∙ and-false (ltb 1 (run l))
+spare-other l h = ap (λ (t : Bool). ltb 1 (digitRun l) && t) (ne-eqb _ _ h) ∙ and-false (ltb 1 (digitRun l))
 
-pub spare-zero : (l : List ℕ) → 1 < run l → getD l 0 0 ≡ 48 → spareZero l ≡ true
+pub spare-zero : (l : List ℕ) → 1 < digitRun l → getD l 0 0 ≡ 48 → spareZero l ≡ true
 unfolding spareZero
 spare-zero l h e = and-intro (lt-ltb _ _ h) (eq-eqb _ _ e)
 
@@ -63,31 +63,31 @@ module _ (s : List ℕ) (at : ℕ) where
   pub first-here : getD (drop at s) 0 0 ≡ getD s at 0
   first-here = getD-drop at s 0 0 ∙ ap (λ (i : ℕ). getD s i 0) (add-zero at)
 
-  no-number : (Numeral (drop at s) → ⊥) → Bad ≡ numberAt s at
-  unfolding numberAt
+  no-number : (Numeral (drop at s) → ⊥) → Bad ≡ numberFrom s at
+  unfolding numberFrom
   no-number h = sym (pick-false _ _ (not-number (drop at s) h))
 
-  pub found-no-digit : {n : ℕ} → n ≡ run (drop at s) → n ≡ 0 → Bad ≡ numberAt s at
+  pub found-no-digit : {n : ℕ} → n ≡ digitRun (drop at s) → n ≡ 0 → Bad ≡ numberFrom s at
   found-no-digit e z = no-number λ k. omega (arith, k .some-digit)
 
-  pub found-too-long : {n : ℕ} → n ≡ run (drop at s) → 10 < n → Bad ≡ numberAt s at
+  pub found-too-long : {n : ℕ} → n ≡ digitRun (drop at s) → 10 < n → Bad ≡ numberFrom s at
   found-too-long e l = no-number λ k. omega (arith, k .few-digits)
 
-  pub found-spare-zero : {n : ℕ} → n ≡ run (drop at s) → 1 < n → getD s at 0 ≡ 48 → Bad ≡ numberAt s at
+  pub found-spare-zero : {n : ℕ} → n ≡ digitRun (drop at s) → 1 < n → getD s at 0 ≡ 48 → Bad ≡ numberFrom s at
   found-spare-zero e l z = no-number λ k. both-ways (spare-zero (drop at s) (rw e at l) (first-here ∙ z)) (k .no-spare)
 
-  pub found-too-large : {v : ℕ} → v ≡ valueFrom 0 (drop at s) → 4_294_967_295 < v → Bad ≡ numberAt s at
+  pub found-too-large : {v : ℕ} → v ≡ valueFrom 0 (drop at s) → 4_294_967_295 < v → Bad ≡ numberFrom s at
   found-too-large e l = no-number λ k. omega (arith, k .small)
 
   pub found-number : {n v : ℕ}
-      → n ≡ run (drop at s)
+      → n ≡ digitRun (drop at s)
       → v ≡ valueFrom 0 (drop at s)
       → (n ≡ 0 → ⊥)
       → n ≤ 10
       → (n ≤ 1) ⊎ (getD s at 0 ≡ 48 → ⊥)
       → v ≤ 4_294_967_295
-      → Good v (at + n) ≡ numberAt s at
-  unfolding numberAt
+      → Good v (at + n) ≡ numberFrom s at
+  unfolding numberFrom
   found-number {n} {v} e f p q z l =
       ap₂ (λ (x y : ℕ). Good x (at + y)) f e
       ∙ sym
@@ -106,16 +106,16 @@ module _ (s : List ℕ) (at : ℕ) where
       })))
 
   -- what the finding says, by its two cases
-  pub missed : numberAt s at ≡ Bad → isNumber (drop at s) ≡ false
-  unfolding numberAt
+  pub missed : numberFrom s at ≡ Bad → isNumber (drop at s) ≡ false
+  unfolding numberFrom
   missed e =
-      let number = Good (valueFrom 0 (drop at s)) (at + run (drop at s)) in
+      let number = Good (valueFrom 0 (drop at s)) (at + digitRun (drop at s)) in
       failed (isNumber (drop at s)) λ t. let z : _≡_ {A = ℕ} 0 1 = cc (e, pick-true number Bad t) in omega arith
 
-  pub found : {v next : ℕ} → numberAt s at ≡ Good v next → (isNumber (drop at s) ≡ true) × (v ≡ valueFrom 0 (drop at s)) × (next ≡ at + run (drop at s))
-  unfolding numberAt
+  pub found : {v next : ℕ} → numberFrom s at ≡ Good v next → (isNumber (drop at s) ≡ true) × (v ≡ valueFrom 0 (drop at s)) × (next ≡ at + digitRun (drop at s))
+  unfolding numberFrom
   found e =
-      let number = Good (valueFrom 0 (drop at s)) (at + run (drop at s)) in
+      let number = Good (valueFrom 0 (drop at s)) (at + digitRun (drop at s)) in
       let none : isNumber (drop at s) ≡ false → ⊥ = λ t. let z : _≡_ {A = ℕ} 0 1 = cc (e, pick-false number Bad t) in omega arith in
       let is = passed (isNumber (drop at s)) none in
       let f = pick-true number Bad is in

@@ -12,7 +12,7 @@ use lib.Dec.{leb}
 use lib.ListN.{take}
 use borrow.Author.Tests.{leb-true}
 use Rattle.loops.proofs.BoolLaws.{decided, both-ways, and-left, and-right, le-or-lt}
-use Rattle.line.specs.Number.{decimal, isDigit, run, valueFrom}
+use Rattle.line.specs.Number.{decimal, isDigit, digitRun, valueFrom}
 use Rattle.line.proofs.DigitLaws.{run-digit, run-other, value-digit, value-other}
 use Rattle.line.proofs.NumberLaws.{Numeral, spare-zero}
 use Rattle.line.proofs.SpellingLaws.{decimal-one, decimal-next, value-stopped}
@@ -32,8 +32,8 @@ value-up v (b ∷ l) =
     (decided (isDigit b))
 
 -- digits read after a number above 0 are those of its spelling
-pub decimal-onward : (v : ℕ) (l : List ℕ) → 0 < v → valueFrom v l < 10_000_000_000 → decimal (valueFrom v l) ≡ decimal v ++ take (run l) l
-unfolding valueFrom run
+pub decimal-onward : (v : ℕ) (l : List ℕ) → 0 < v → valueFrom v l < 10_000_000_000 → decimal (valueFrom v l) ≡ decimal v ++ take (digitRun l) l
+unfolding valueFrom digitRun
 decimal-onward v [] p h = sym (append-nil (decimal v))
 decimal-onward v (b ∷ l) p h =
     ⊎-elim
@@ -45,8 +45,8 @@ decimal-onward v (b ∷ l) p h =
     let byte : 48 + (b - 48) ≡ b = omega arith in
     ap decimal (value-digit v b l d)
     ∙ decimal-onward w l (omega arith) h′
-    ∙ ap (λ (ds : List ℕ). ds ++ take (run l) l) (decimal-next v (b - 48) p (omega arith) (omega arith) ∙ ap (λ (x : ℕ). decimal v ++ (x ∷ [])) byte)
-    ∙ append-assoc (decimal v) (b ∷ []) (take (run l) l)
+    ∙ ap (λ (ds : List ℕ). ds ++ take (digitRun l) l) (decimal-next v (b - 48) p (omega arith) (omega arith) ∙ ap (λ (x : ℕ). decimal v ++ (x ∷ [])) byte)
+    ∙ append-assoc (decimal v) (b ∷ []) (take (digitRun l) l)
     ∙ ap (λ (n : ℕ). decimal v ++ take n (b ∷ l)) (sym (run-digit b l d)))
     (λ (d : isDigit b ≡ false).
     ap decimal (value-other v b l d)
@@ -55,8 +55,8 @@ decimal-onward v (b ∷ l) p h =
     (decided (isDigit b))
 
 -- the digits of a number are its spelling
-pub number-is-decimal : (l : List ℕ) → Numeral l → take (run l) l ≡ decimal (valueFrom 0 l)
-unfolding run
+pub number-is-decimal : (l : List ℕ) → Numeral l → take (digitRun l) l ≡ decimal (valueFrom 0 l)
+unfolding digitRun
 number-is-decimal [] n = absurd (omega (arith, n .some-digit))
 number-is-decimal (b ∷ l) n =
     ⊎-elim
@@ -69,12 +69,12 @@ number-is-decimal (b ∷ l) n =
     let small : valueFrom (b - 48) l ≤ 4_294_967_295 = rw value at (n .small) in
     ap (λ (k : ℕ). take k (b ∷ l)) e
     ∙ ⊎-elim
-    (λ (h : run l ≤ 0).
-    let none : run l ≡ 0 = omega arith in
+    (λ (h : digitRun l ≤ 0).
+    let none : digitRun l ≡ 0 = omega arith in
     ap (λ (k : ℕ). b ∷ take k l) none ∙ sym first ∙ ap decimal (sym (value-stopped (b - 48) l none) ∙ sym value))
-    (λ (h : 0 < run l).
+    (λ (h : 0 < digitRun l).
     let other : b ≡ 48 → ⊥ = λ z. both-ways (spare-zero (b ∷ l) (omega arith) z) (n .no-spare) in
-    sym (ap decimal value ∙ decimal-onward (b - 48) l (omega arith) (omega arith) ∙ ap (λ (ds : List ℕ). ds ++ take (run l) l) first))
-    (le-or-lt (run l) 0))
+    sym (ap decimal value ∙ decimal-onward (b - 48) l (omega arith) (omega arith) ∙ ap (λ (ds : List ℕ). ds ++ take (digitRun l) l) first))
+    (le-or-lt (digitRun l) 0))
     (λ (d : isDigit b ≡ false). absurd (omega (arith, run-other b l d, n .some-digit)))
     (decided (isDigit b))

@@ -2,15 +2,16 @@
 -- Assumes nothing.
 use Prim.Native.Nat.{ℕ, suc, _+_, _*_, _/_, _%_, _^_, _≤_, _<_}
 use native.Mathlib.Numerals.{add-one}
-use native.Mathlib.Nat.{add-zero}
+use native.Mathlib.Nat.{add-zero, le-refl}
 use native.Mathlib.Omega.{arith}
 use mathlib.Core.Path.{_≡_, refl, sym, _∙_, ap, ap₂}
 use mathlib.Core.List.{List, [], _∷_, _++_, append-assoc, append-nil}
 use mathlib.Core.Bool.{Bool}
 use lib.ListN.{length, getD, take, drop, set, length-append, take-append-drop}
-use lib.Seq.{sets, length-sets, take-suc, take-take}
+use lib.Seq.{sets, sets-eq, length-sets, take-suc, take-take, take-all, take-append-le}
 use Rattle.line.specs.Number.{decimal}
 use Rattle.line.specs.Grammar.{spaced}
+use Rattle.paper.specs.declared.answer.Payload.{Payload}
 use Rattle.line.specs.Answers.{valueAnswer, unwrittenAnswer, standing, stampAnswer}
 use Rattle.line.specs.Printing.{Room, Wrote}
 use Rattle.line.proofs.SpellingLaws.{spelled-length, decimal-one, decimal-more}
@@ -140,11 +141,11 @@ spaced-length (n ∷ ns) =
 pub room-enough : {o : List ℕ} {at : ℕ} (bytes : List ℕ) (n : ℕ) → length bytes ≤ n → at + n ≤ length o → Room o at bytes
 room-enough bytes n h l = record { room = omega arith }
 
--- an answer of a register of D depots has at most 12 + 11 D bytes
-pub value-answer-length : (v : ℕ) (vector : List ℕ) → length (valueAnswer v vector) ≤ 12 + 11 * length vector
-value-answer-length v vector =
-    let e = length-append (decimal v) (spaced vector) in
-    let h = decimal-length v in
+-- an answer of a register of D depots has at most 34 + 11 D bytes
+pub value-answer-length : (p : Payload) (vector : List ℕ) → length (valueAnswer p vector) ≤ 34 + 11 * length vector
+value-answer-length p vector =
+    let e = length-append (spaced (p .value ∷ p .diameter ∷ p .width ∷ [])) (spaced vector) in
+    let h = spaced-length (p .value ∷ p .diameter ∷ p .width ∷ []) in
     let k = spaced-length vector in
     omega arith
 
@@ -156,3 +157,13 @@ stamp-answer-length stamp current =
     let e = length-append (decimal stamp) (32 ∷ (standing current ∷ [])) in
     let h = decimal-length stamp in
     omega arith
+
+-- what was written at the start of an output is its beginning
+pub wrote-start : {o o′ xs : List ℕ} {next : ℕ} → Wrote o 0 xs o′ next → next ≤ length o′ → take next o′ ≡ xs
+wrote-start {o} {o′} {xs} {next} w h =
+    let same = wrote-length w in
+    let whole : o′ ≡ xs ++ drop (0 + length xs) o = w .stored ∙ sets-eq xs o 0 (omega (arith, w .after)) in
+    let end : next ≡ length xs = omega (arith, w .after) in
+    ap₂ (λ (n : ℕ) (x : List ℕ). take n x) end whole
+    ∙ take-append-le (length xs) xs (drop (0 + length xs) o) (le-refl _)
+    ∙ take-all (length xs) xs (le-refl _)

@@ -14,7 +14,7 @@ use lib.Seq.{sets, drop-drop}
 use borrow.Author.Tests.{le-leb, lt-leb, eq-eqb, ne-eqb}
 use Rattle.loops.specs.Loops.{pick}
 use Rattle.loops.proofs.BoolLaws.{and-intro, pick-true, pick-false}
-use Rattle.line.specs.Number.{run, valueFrom, isNumber}
+use Rattle.line.specs.Number.{digitRun, valueFrom, isNumber}
 use Rattle.line.specs.Reading.{bad, good, before, numbersIn, counted, badLine, lineOf}
 use Rattle.paper.specs.declared.request.Event.{Event}
 use Rattle.line.specs.declared.reader.Said.the-variants.{Names}
@@ -32,7 +32,7 @@ unfolding numbersIn
 numbers-wrong zero b l h = refl
 numbers-wrong (suc k) b l h = pick-false _ _ h
 
-pub numbers-right : (k b : ℕ) (l : List ℕ) → eqb b 32 && isNumber l ≡ true → numbersIn (suc k) (b ∷ l) ≡ before (valueFrom 0 l) (numbersIn k (drop (run l) l))
+pub numbers-right : (k b : ℕ) (l : List ℕ) → eqb b 32 && isNumber l ≡ true → numbersIn (suc k) (b ∷ l) ≡ before (valueFrom 0 l) (numbersIn k (drop (digitRun l) l))
 unfolding numbersIn
 numbers-right k b l h = pick-true _ _ h
 
@@ -55,12 +55,12 @@ module _ (s : List ℕ) (k i : ℕ) where
   pub numbers-found : {v next : ℕ}
       → i < length s
       → getD s i 0 ≡ 32
-      → (isNumber (drop (i + 1) s) ≡ true) × (v ≡ valueFrom 0 (drop (i + 1) s)) × (next ≡ i + 1 + run (drop (i + 1) s))
+      → (isNumber (drop (i + 1) s) ≡ true) × (v ≡ valueFrom 0 (drop (i + 1) s)) × (next ≡ i + 1 + digitRun (drop (i + 1) s))
       → numbersIn (suc k) (drop i s) ≡ before v (numbersIn k (drop next s))
   numbers-found {v} {next} h e f =
       ap (numbersIn (suc k)) (from-here s i h)
       ∙ numbers-right k _ _ (and-intro (eq-eqb (getD s i 0) 32 e) (f .0))
-      ∙ ap₂ (λ (x : ℕ) (l : List ℕ). before x (numbersIn k l)) (sym (f .1)) (drop-drop (run (drop (i + 1) s)) (i + 1) s ∙ ap (λ (j : ℕ). drop j s) (sym (f .2)))
+      ∙ ap₂ (λ (x : ℕ) (l : List ℕ). before x (numbersIn k l)) (sym (f .1)) (drop-drop (digitRun (drop (i + 1) s)) (i + 1) s ∙ ap (λ (j : ℕ). drop j s) (sym (f .2)))
 
 -- the answer of a reader that has stored n numbers in vs and finds m after them
 unfoldable pub answered : Event → ℕ → List ℕ → ℕ → Option (List ℕ) → Line

@@ -11,7 +11,7 @@ use mathlib.Core.Bool.{true, false}
 use lib.ListN.{length, getD, length-append}
 use borrow.Author.Tests.{lt-ltb, le-ltb}
 use Rattle.loops.proofs.BoolLaws.{le-or-lt, decided, pick-true, pick-false}
-use Rattle.line.specs.Number.{spelled, decimal, isDigit, run, valueFrom, isNumber}
+use Rattle.line.specs.Number.{spelled, decimal, isDigit, digitRun, valueFrom, isNumber}
 use Rattle.line.proofs.DigitLaws.{digit-yes, run-digit, value-digit, value-other}
 use Rattle.line.proofs.NumberLaws.{number-whole, spare-none, spare-other}
 
@@ -58,7 +58,7 @@ digit-of d h = digit-yes (48 + d) (omega arith) (omega arith)
 snoc : (ds : List ℕ) (x : ℕ) (t : List ℕ) → (ds ++ (x ∷ [])) ++ t ≡ ds ++ (x ∷ t)
 snoc ds x t = append-assoc ds (x ∷ []) t
 
-pub spelled-run : (k n : ℕ) (t : List ℕ) → run (spelled k n ++ t) ≡ length (spelled k n) + run t
+pub spelled-run : (k n : ℕ) (t : List ℕ) → digitRun (spelled k n ++ t) ≡ length (spelled k n) + digitRun t
 unfolding spelled
 spelled-run zero n t = omega arith
 spelled-run (suc k) n t =
@@ -116,7 +116,7 @@ spelled-some k n =
     (le-or-lt 10 n)
 
 -- where no digit follows, the value stays
-pub value-stopped : (v : ℕ) (t : List ℕ) → run t ≡ 0 → valueFrom v t ≡ v
+pub value-stopped : (v : ℕ) (t : List ℕ) → digitRun t ≡ 0 → valueFrom v t ≡ v
 unfolding valueFrom
 value-stopped v [] h = refl
 value-stopped v (b ∷ t) h =
@@ -125,8 +125,8 @@ value-stopped v (b ∷ t) h =
     (λ (d : isDigit b ≡ false). value-other v b t d)
     (decided (isDigit b))
 
-module _ (n : ℕ) (t : List ℕ) (small : n ≤ 4_294_967_295) (stop : run t ≡ 0) where
-  pub decimal-run : run (decimal n ++ t) ≡ length (decimal n)
+module _ (n : ℕ) (t : List ℕ) (small : n ≤ 4_294_967_295) (stop : digitRun t ≡ 0) where
+  pub decimal-run : digitRun (decimal n ++ t) ≡ length (decimal n)
   unfolding decimal
   decimal-run = let e = spelled-run 10 n t in omega arith
 

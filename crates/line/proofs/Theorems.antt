@@ -13,8 +13,8 @@ use lib.ListN.{length, getD, take, drop, replicate, length-drop}
 use lib.Seq.{sets, sets-eq, take-length, take-append-seam, take-at, drop-append-le, getD-take}
 use borrow.Author.Tests.{le-leb, leb-true}
 use Rattle.loops.proofs.BoolLaws.{decided, le-or-lt, pick-true, pick-false}
-use Rattle.line.specs.Number.{decimal, run, valueFrom, isNumber, mostNumber, Spells}
-use Rattle.line.specs.Grammar.{letter, least, most, mostBytes, printed, inRange, Says}
+use Rattle.line.specs.Number.{decimal, digitRun, valueFrom, isNumber, mostNumber, Spells}
+use Rattle.line.specs.Grammar.{letter, least, most, mostBytes, lineFor, wordSized, InGrammar}
 use Rattle.line.specs.Reading.{Reading, bad, good, eventOf, numbersIn, counted, named, headed, reading, mostNumbers, lineOf}
 use Rattle.line.specs.Printing.{Room, Wrote}
 use Rattle.paper.specs.declared.request.Event.{Event}
@@ -29,10 +29,10 @@ use Rattle.line.proofs.GrammarLaws.{numbers-printed, numbers-read, even
 -- ---- numbers
 
 pub decimal-spells : (n : ℕ) → n ≤ mostNumber → Spells (decimal n) n
-unfolding run
+unfolding digitRun
 decimal-spells n h =
     record {
-      all-digits = ap run (sym (append-nil (decimal n))) ∙ decimal-run n [] h refl;
+      all-digits = ap digitRun (sym (append-nil (decimal n))) ∙ decimal-run n [] h refl;
       number = ap isNumber (sym (append-nil (decimal n))) ∙ decimal-is-number n [] h refl;
       value = ap (valueFrom 0) (sym (append-nil (decimal n))) ∙ decimal-value n [] h refl;
     }
@@ -52,8 +52,8 @@ one-number m n p q e = sym (decimal-spells m p .value) ∙ ap (valueFrom 0) e �
 -- ---- lines
 
 -- a line in the grammar is read as what it says
-pub says-read : (s : List ℕ) (e : Event) (ns : List ℕ) → Says s e ns → reading s ≡ good e ns
-unfolding printed counted
+pub says-read : (s : List ℕ) (e : Event) (ns : List ℕ) → InGrammar s e ns → reading s ≡ good e ns
+unfolding lineFor counted
 says-read s e ns h =
     reading-event e s (h .short) (λ z. let l = ap length (h .bytes) in omega arith) (ap (λ (l : List ℕ). getD l 0 0) (h .bytes))
     ∙ ap (λ (l : List ℕ). counted e (least e) (numbersIn (most e) (drop 1 l))) (h .bytes)
@@ -69,8 +69,8 @@ counted-says : (b : ℕ) (l : List ℕ) (e′ e : Event) (ns : List ℕ) (m : Op
     → b ≡ letter e′
     → numbersIn (most e′) l ≡ m
     → counted e′ (least e′) m ≡ good e ns
-    → Says (b ∷ l) e ns
-unfolding counted printed
+    → InGrammar (b ∷ l) e ns
+unfolding counted lineFor
 counted-says b l e′ e ns none short p q h = absurd (never e ns h)
 counted-says b l e′ e ns (some ns′) short p q h =
     ⊎-elim
@@ -78,7 +78,7 @@ counted-says b l e′ e ns (some ns′) short p q h =
     let same : good e′ ns′ ≡ good e ns = sym (pick-true _ _ t) ∙ h in
     let event : e′ ≡ e = cc in
     let list : ns′ ≡ ns = cc in
-    let said : Says (b ∷ l) e′ ns′ =
+    let said : InGrammar (b ∷ l) e′ ns′ =
     let prints = numbers-read (most e′) l ns′ q in
     record {
       bytes = ap (λ (x : ℕ). x ∷ l) p ∙ ap (λ (y : List ℕ). letter e′ ∷ y) (prints .bytes);
@@ -95,18 +95,18 @@ named-says : (b : ℕ) (l : List ℕ) (o : Option Event) (e : Event) (ns : List 
     → length (b ∷ l) ≤ mostBytes
     → eventOf b ≡ o
     → named o l ≡ good e ns
-    → Says (b ∷ l) e ns
+    → InGrammar (b ∷ l) e ns
 unfolding named
 named-says b l none e ns short p h = absurd (never e ns h)
 named-says b l (some e′) e ns short p h = counted-says b l e′ e ns (numbersIn (most e′) l) short (event-back b e′ p) refl h
 
-headed-says : (s : List ℕ) (e : Event) (ns : List ℕ) → length s ≤ mostBytes → headed s ≡ good e ns → Says s e ns
+headed-says : (s : List ℕ) (e : Event) (ns : List ℕ) → length s ≤ mostBytes → headed s ≡ good e ns → InGrammar s e ns
 unfolding headed
 headed-says [] e ns short h = absurd (never e ns h)
 headed-says (b ∷ l) e ns short h = named-says b l (eventOf b) e ns short refl h
 
 -- what is read as an event and its numbers is in the grammar and says so
-pub read-says : (s : List ℕ) (e : Event) (ns : List ℕ) → reading s ≡ good e ns → Says s e ns
+pub read-says : (s : List ℕ) (e : Event) (ns : List ℕ) → reading s ≡ good e ns → InGrammar s e ns
 read-says s e ns h =
     ⊎-elim
     (λ (l : length s ≤ 120). headed-says s e ns l (sym (reading-short s l) ∙ h))
@@ -114,29 +114,29 @@ read-says s e ns h =
     (le-or-lt (length s) 120)
 
 -- accepted exactly if it is in the grammar
-pub accepted-exactly : (s : List ℕ) (e : Event) (ns : List ℕ) → (reading s ≡ good e ns) ↔ Says s e ns
+pub accepted-exactly : (s : List ℕ) (e : Event) (ns : List ℕ) → (reading s ≡ good e ns) ↔ InGrammar s e ns
 accepted-exactly s e ns = (read-says s e ns, says-read s e ns)
 
 -- and BAD LINE exactly if it is not
-pub refused-exactly : (s : List ℕ) → (reading s ≡ bad) ↔ ((e : Event) (ns : List ℕ) → Says s e ns → ⊥)
+pub refused-exactly : (s : List ℕ) → (reading s ≡ bad) ↔ ((e : Event) (ns : List ℕ) → InGrammar s e ns → ⊥)
 refused-exactly s = (λ h e ns w. never e ns (sym h ∙ says-read s e ns w), λ h. other (reading s) refl h)
   where
-    other : (r : Reading) → reading s ≡ r → ((e : Event) (ns : List ℕ) → Says s e ns → ⊥) → reading s ≡ bad
+    other : (r : Reading) → reading s ≡ r → ((e : Event) (ns : List ℕ) → InGrammar s e ns → ⊥) → reading s ≡ bad
     other bad p h = p
     other (good e ns) p h = absurd (h e ns (read-says s e ns p))
 
 -- one reading
-pub one-reading : (s : List ℕ) (e e′ : Event) (ns ns′ : List ℕ) → Says s e ns → Says s e′ ns′ → (e ≡ e′) × (ns ≡ ns′)
+pub one-reading : (s : List ℕ) (e e′ : Event) (ns ns′ : List ℕ) → InGrammar s e ns → InGrammar s e′ ns′ → (e ≡ e′) × (ns ≡ ns′)
 one-reading s e e′ ns ns′ p q =
     let same : good e ns ≡ good e′ ns′ = sym (says-read s e ns p) ∙ says-read s e′ ns′ q in
     (cc, cc)
 
 -- reading back what was printed gives the same event and numbers
-pub read-printed : (e : Event) (ns : List ℕ) → least e ≤ length ns → length ns ≤ most e → inRange ns ≡ true → length (printed e ns) ≤ mostBytes → reading (printed e ns) ≡ good e ns
-read-printed e ns p q r l = says-read (printed e ns) e ns (record { bytes = refl; enough = p; not-over = q; in-range = r; short = l })
+pub read-printed : (e : Event) (ns : List ℕ) → least e ≤ length ns → length ns ≤ most e → wordSized ns ≡ true → length (lineFor e ns) ≤ mostBytes → reading (lineFor e ns) ≡ good e ns
+read-printed e ns p q r l = says-read (lineFor e ns) e ns (record { bytes = refl; enough = p; not-over = q; in-range = r; short = l })
 
 -- an accepted line is the printed form of its reading
-pub printed-read : (s : List ℕ) (e : Event) (ns : List ℕ) → reading s ≡ good e ns → s ≡ printed e ns
+pub printed-read : (s : List ℕ) (e : Event) (ns : List ℕ) → reading s ≡ good e ns → s ≡ lineFor e ns
 printed-read s e ns h = read-says s e ns h .bytes
 
 -- ---- the struct that the reader hands back
@@ -165,7 +165,7 @@ most-fits Tick = omega arith
 most-fits Take = omega arith
 most-fits Refresh = omega arith
 
-line-says : (s : List ℕ) (e : Event) (r : Reading) → reading s ≡ r → lineOf r .said ≡ Names e → Says s e (take (lineOf r .count) (lineOf r .numbers))
+line-says : (s : List ℕ) (e : Event) (r : Reading) → reading s ≡ r → lineOf r .said ≡ Names e → InGrammar s e (take (lineOf r .count) (lineOf r .numbers))
 unfolding lineOf
 line-says s e bad p h = absurd (let z : _≡_ {A = ℕ} 0 1 = cc in omega arith)
 line-says s e (good e′ ns) p h =
@@ -175,11 +175,11 @@ line-says s e (good e′ ns) p h =
     rw (numbers-stored ns (omega (arith, said .not-over)), ← event) said
 
 -- a line that the struct says names an event says that event with the numbers that count
-pub answer-says : (s : List ℕ) (e : Event) → lineOf (reading s) .said ≡ Names e → Says s e (take (lineOf (reading s) .count) (lineOf (reading s) .numbers))
+pub answer-says : (s : List ℕ) (e : Event) → lineOf (reading s) .said ≡ Names e → InGrammar s e (take (lineOf (reading s) .count) (lineOf (reading s) .numbers))
 answer-says s e h = line-says s e (reading s) refl h
 
 -- and one in the grammar is answered so
-pub says-answer : (s : List ℕ) (e : Event) (ns : List ℕ) → Says s e ns → lineOf (reading s) .said ≡ Names e
+pub says-answer : (s : List ℕ) (e : Event) (ns : List ℕ) → InGrammar s e ns → lineOf (reading s) .said ≡ Names e
 unfolding lineOf
 says-answer s e ns h = rw (says-read s e ns h)
 

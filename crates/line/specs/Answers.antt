@@ -1,9 +1,10 @@
 -- The desk's answers to the byte, without the line feed. A refusal, and a call that has nothing more to say, is its number; after the 0 of
--- a read the value or - and the vector's entries follow, after that of a write the stamp and C or S.
+-- a read the value with the card's two words, or -, and the vector's entries follow, after that of a write the stamp and C or S.
 -- Assumes nothing.
 use Prim.Native.Nat.{ℕ}
 use mathlib.Core.List.{List, [], _∷_, _++_}
 use mathlib.Core.Bool.{Bool, true, false}
+use Rattle.paper.specs.declared.answer.Payload.{Payload}
 use Rattle.line.specs.Number.{decimal, zeroByte}
 use Rattle.line.specs.Grammar.{spaceByte, spaced}
 
@@ -11,9 +12,9 @@ use Rattle.line.specs.Grammar.{spaceByte, spaced}
 abbrev pub numberAnswer : ℕ → List ℕ
 numberAnswer n = decimal n
 
--- 0 value v0 .. v(D-1)
-abbrev pub valueAnswer : ℕ → List ℕ → List ℕ
-valueAnswer value vector = zeroByte ∷ ((spaceByte ∷ decimal value) ++ spaced vector)
+-- 0 value diameter width v0 .. v(D-1)
+abbrev pub valueAnswer : Payload → List ℕ → List ℕ
+valueAnswer p vector = zeroByte ∷ (spaced (p .value ∷ p .diameter ∷ p .width ∷ []) ++ spaced vector)
 
 -- 0 - v0 .. v(D-1)
 abbrev pub unwrittenAnswer : List ℕ → List ℕ

@@ -20,12 +20,12 @@ letter Take = 84
 letter Refresh = 70
 
 -- how many numbers an event takes, at least. In their order they are
---   S the four counts, then the homes · R crew, bearing · W crew, bearing, value
+--   S the four counts, then the homes · R crew, bearing · W crew, bearing, value, bits of diameter, bits of width
 --   K depot, shelf · T at depot, shelf, from depot · F depot, shelf
 abbrev pub least : Event → ℕ
 least Setup = 4
 least Read = 2
-least Write = 3
+least Write = 5
 least Tick = 2
 least Take = 3
 least Refresh = 2
@@ -34,7 +34,7 @@ least Refresh = 2
 abbrev pub most : Event → ℕ
 most Setup = 20
 most Read = 2
-most Write = 3
+most Write = 5
 most Tick = 2
 most Take = 3
 most Refresh = 2
@@ -53,18 +53,18 @@ spaced [] = []
 spaced (n ∷ ns) = spaceByte ∷ (decimal n ++ spaced ns)
 
 -- the bytes of the line for the event e and the numbers ns
-unfoldable pub printed : Event → List ℕ → List ℕ
-printed e ns = letter e ∷ spaced ns
+unfoldable pub lineFor : Event → List ℕ → List ℕ
+lineFor e ns = letter e ∷ spaced ns
 
 -- each number is at most 4,294,967,295
-unfoldable pub inRange : List ℕ → Bool
-inRange [] = true
-inRange (n ∷ ns) = leb n mostNumber && inRange ns
+unfoldable pub wordSized : List ℕ → Bool
+wordSized [] = true
+wordSized (n ∷ ns) = leb n mostNumber && wordSized ns
 
 -- the line s is in the grammar and says the event e with the numbers ns
-pub record Says (s : List ℕ) (e : Event) (ns : List ℕ) : Type 0 where
-  pub bytes : s ≡ printed e ns
+pub record InGrammar (s : List ℕ) (e : Event) (ns : List ℕ) : Type 0 where
+  pub bytes : s ≡ lineFor e ns
   pub enough : least e ≤ length ns
   pub not-over : length ns ≤ most e
-  pub in-range : inRange ns ≡ true
+  pub in-range : wordSized ns ≡ true
   pub short : length s ≤ mostBytes

@@ -36,9 +36,9 @@ unfoldable pub isDigit : ℕ → Bool
 isDigit b = leb zeroByte b && leb b 57
 
 -- how many digits a text begins with
-unfoldable pub run : List ℕ → ℕ
-run [] = 0
-run (b ∷ l) = pick (isDigit b) (suc (run l)) 0
+unfoldable pub digitRun : List ℕ → ℕ
+digitRun [] = 0
+digitRun (b ∷ l) = pick (isDigit b) (suc (digitRun l)) 0
 
 -- the number that the digits at the beginning of a text spell, after digits that spell v
 unfoldable pub valueFrom : ℕ → List ℕ → ℕ
@@ -47,18 +47,18 @@ valueFrom v (b ∷ l) = pick (isDigit b) (valueFrom (v * 10 + (b - zeroByte)) l)
 
 -- more than one digit, and the first is 0
 unfoldable pub spareZero : List ℕ → Bool
-spareZero l = ltb 1 (run l) && eqb (getD l 0 0) zeroByte
+spareZero l = ltb 1 (digitRun l) && eqb (getD l 0 0) zeroByte
 
 -- the digits that a text begins with are a number: 1 to 10 digits, no spare leading zero, at most 4,294,967,295
 unfoldable pub isNumber : List ℕ → Bool
-isNumber l = leb 1 (run l) && (leb (run l) mostDigits && (not (spareZero l) && leb (valueFrom 0 l) mostNumber))
+isNumber l = leb 1 (digitRun l) && (leb (digitRun l) mostDigits && (not (spareZero l) && leb (valueFrom 0 l) mostNumber))
 
 -- what stands in the text s at the place at: a number, with the place after it, or none
-unfoldable pub numberAt : List ℕ → ℕ → Number
-numberAt s at = pick (isNumber (drop at s)) (Good (valueFrom 0 (drop at s)) (at + run (drop at s))) Bad
+unfoldable pub numberFrom : List ℕ → ℕ → Number
+numberFrom s at = pick (isNumber (drop at s)) (Good (valueFrom 0 (drop at s)) (at + digitRun (drop at s))) Bad
 
 -- the text ds is a spelling of n: nothing but digits, which are a number and say n
 pub record Spells (ds : List ℕ) (n : ℕ) : Type 0 where
-  pub all-digits : run ds ≡ length ds
+  pub all-digits : digitRun ds ≡ length ds
   pub number : isNumber ds ≡ true
   pub value : valueFrom 0 ds ≡ n

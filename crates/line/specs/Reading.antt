@@ -8,7 +8,7 @@ use lib.Dec.{leb, eqb}
 use lib.ListN.{length, drop, replicate}
 use lib.Seq.{sets}
 use Rattle.loops.specs.Loops.{pick}
-use Rattle.line.specs.Number.{run, valueFrom, isNumber}
+use Rattle.line.specs.Number.{digitRun, valueFrom, isNumber}
 use Rattle.line.specs.Grammar.{letter, least, most, mostBytes, spaceByte}
 use Rattle.paper.specs.declared.request.Event.{Event}
 use Rattle.paper.specs.declared.request.Event.the-variants.{Setup, Read, Write, Tick, Take, Refresh}
@@ -38,7 +38,7 @@ unfoldable pub numbersIn : ℕ → List ℕ → Option (List ℕ)
 numbersIn zero [] = some []
 numbersIn zero (b ∷ l) = none
 numbersIn (suc k) [] = some []
-numbersIn (suc k) (b ∷ l) = pick (eqb b spaceByte && isNumber l) (before (valueFrom 0 l) (numbersIn k (drop (run l) l))) none
+numbersIn (suc k) (b ∷ l) = pick (eqb b spaceByte && isNumber l) (before (valueFrom 0 l) (numbersIn k (drop (digitRun l) l))) none
 
 -- the event e with its numbers, if they are enough
 unfoldable pub counted : Event → ℕ → Option (List ℕ) → Reading

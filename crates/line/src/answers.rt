@@ -2,6 +2,7 @@
 use crate::printer::print_number;
 use crate::printer::print_numbers;
 use crate::printer::print_spaced;
+use paper::answer::Payload;
 ghost use mathlib.Core.Path.{_≡_};
 ghost use Prim.Native.Nat.{_≤_};
 ghost use lib.ListN.{take, length};
@@ -16,13 +17,20 @@ pub fn answer_number(out: &mut [u8], at: usize, n: u32) -> usize
     print_number(out, at, n)
 }
 
-// A read's value, and the first `depots` entries of its vector.
-pub fn answer_value(out: &mut [u8], at: usize, value: u32, vector: &[u32], depots: usize) -> usize
-    requires { ⌜ (depots ≤ length (now vector)) × Room (now out) at (valueAnswer value (take depots (now vector))) ⌝ }
-    ensures { λ r. ⌜ Wrote (now (out .entry)) at (valueAnswer value (take depots (now (vector .entry)))) (now (out .exit)) r ⌝ }
+// A read's value and the two words of its card, and the first `depots` entries of its vector.
+pub fn answer_value(
+    out: &mut [u8],
+    at: usize,
+    payload: Payload,
+    vector: &[u32],
+    depots: usize,
+) -> usize
+    requires { ⌜ (depots ≤ length (now vector)) × Room (now out) at (valueAnswer payload (take depots (now vector))) ⌝ }
+    ensures { λ r. ⌜ Wrote (now (out .entry)) at (valueAnswer payload (take depots (now (vector .entry)))) (now (out .exit)) r ⌝ }
 {
     out[at] = b'0';
-    let next = print_spaced(out, at + 1, value);
+    let told = [payload.value, payload.diameter, payload.width];
+    let next = print_numbers(out, at + 1, &told, 3);
     print_numbers(out, next, vector, depots)
 }
 

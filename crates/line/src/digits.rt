@@ -2,7 +2,7 @@
 ghost use mathlib.Core.Path.{_≡_};
 ghost use Prim.Native.Nat.{_+_, _≤_};
 ghost use lib.ListN.{drop};
-ghost use Rattle.line.specs.Number.{mostDigits, run, valueFrom, numberAt};
+ghost use Rattle.line.specs.Number.{mostDigits, digitRun, valueFrom, numberFrom};
 
 const MOST_DIGITS: usize = 10;
 
@@ -16,7 +16,7 @@ pub enum Number {
 
 // How many digits stand from `at` on.
 fn digits_at(s: &[u8], at: usize) -> usize
-    ensures { λ r. ⌜ r ≡ run (drop at (now (s .entry))) ⌝ }
+    ensures { λ r. ⌜ r ≡ digitRun (drop at (now (s .entry))) ⌝ }
 {
     let mut i = at;
     while i < s.len() {
@@ -35,7 +35,7 @@ fn digits_at(s: &[u8], at: usize) -> usize
 
 // The number that the digits from `at` on spell, of which there are at most ten.
 fn value_at(s: &[u8], at: usize) -> u64
-    requires { ⌜ run (drop at (now s)) ≤ mostDigits ⌝ }
+    requires { ⌜ digitRun (drop at (now s)) ≤ mostDigits ⌝ }
     ensures { λ r. ⌜ r ≡ valueFrom 0 (drop at (now (s .entry))) ⌝ }
 {
     let mut v: u64 = 0;
@@ -57,7 +57,7 @@ fn value_at(s: &[u8], at: usize) -> u64
 
 // The number that stands at `at`, with the place after it.
 pub fn read_number(s: &[u8], at: usize) -> Number
-    ensures { λ r. ⌜ r ≡ numberAt (now (s .entry)) at ⌝ }
+    ensures { λ r. ⌜ r ≡ numberFrom (now (s .entry)) at ⌝ }
 {
     let n = digits_at(s, at);
     if n == 0 {

@@ -82,7 +82,7 @@ pub fn read_line(s: &[u8]) -> Line
     match letter {
         b'S' => read_numbers(s, Event::Setup, 4, 20),
         b'R' => read_numbers(s, Event::Read, 2, 2),
-        b'W' => read_numbers(s, Event::Write, 3, 3),
+        b'W' => read_numbers(s, Event::Write, 5, 5),
         b'K' => read_numbers(s, Event::Tick, 2, 2),
         b'T' => read_numbers(s, Event::Take, 3, 3),
         b'F' => read_numbers(s, Event::Refresh, 2, 2),

@@ -11,7 +11,8 @@ use Rattle.order.specs.Order.{above}
 use Rattle.loops.proofs.BoolLaws.{decided, eq-or-ne, pick-true, pick-false}
 use Rattle.model.specs.Parts.{Counts, Version, Write, copy, Shelf, State, rank, stamp, unwritten, greater, setCrew}
 use Rattle.model.specs.Rules.{keeping, storing, keep, send, settle}
-use Rattle.paper.specs.Calls.{Call, read, write, tick, take, refresh, Answer, numberIn, current, superseded}
+use Rattle.paper.specs.declared.answer.Payload.{Payload}
+use Rattle.paper.specs.Calls.{Call, read, write, tick, take, refresh, move, Answer, numberIn, current, superseded}
 use Rattle.model.specs.Calls.{Outcome, shelfOf, homeShelf, answered, made, refusal, reading, acted, step}
 use Rattle.model.specs.System.{ofModel, run}
 use Rattle.model.specs.Demands.{Wrote, now, Made, WriteAnswers}
@@ -27,10 +28,11 @@ module _ (π : Counts) where
   acted-number : (σ : State) (q : Call) → numberIn (acted π σ q .answer) ≡ 0
   unfolding acted reading numberIn
   acted-number σ (read c k) = refl
-  acted-number σ (write c k value) = pick-all (λ (a : Answer). numberIn a ≡ 0) _ (λ t. refl) (λ t. refl)
+  acted-number σ (write c k p) = pick-all (λ (a : Answer). numberIn a ≡ 0) _ (λ t. refl) (λ t. refl)
   acted-number σ (tick d s) = refl
   acted-number σ (take d s o) = refl
   acted-number σ (refresh d s) = refl
+  acted-number σ (move c d) = refl
 
   pub step-number : (σ : State) (q : Call) → numberIn (step π σ q .answer) ≡ refusal π σ q
   unfolding numberIn
@@ -40,14 +42,14 @@ module _ (π : Counts) where
       (eq-or-ne (refusal π σ q) 0)
 
   -- where a write is done its home shelf stores the greater of what it stored, raised and shown, and the version made
-  write-stores : (c k value : ℕ) (σ : State) → acted π σ (write c k value) .state .shelf (σ .home c) (shelfOf π k) .store k
-      ≡ greater (π .depots) (answered π c k σ) (made π c k value σ)
+  write-stores : (c k : ℕ) (p : Payload) (σ : State) → acted π σ (write c k p) .state .shelf (σ .home c) (shelfOf π k) .store k
+      ≡ greater (π .depots) (answered π c k σ) (made π c k p σ)
   unfolding acted send keep storing keeping settle setCrew answered homeShelf
-  write-stores c k value σ =
+  write-stores c k p σ =
       send-same π (keep π d s w τ) d s (copy w) (λ v u (f : ℕ → Version) t. f k) d s
       ∙ ap (λ (g : Shelf). g .store k) (setShelf-here d s (storing (π .depots) w (τ .shelf d s)) τ)
-      ∙ put-same k (greater (π .depots) (τ .shelf d s .store k) (made π c k value σ)) (τ .shelf d s .store)
-      ∙ ap (λ (g : Shelf). greater (π .depots) (g .store k) (made π c k value σ)) (setShelf-here d s (homeShelf π c k σ) σ)
+      ∙ put-same k (greater (π .depots) (τ .shelf d s .store k) (made π c k p σ)) (τ .shelf d s .store)
+      ∙ ap (λ (g : Shelf). greater (π .depots) (g .store k) (made π c k p σ)) (setShelf-here d s (homeShelf π c k σ) σ)
     where
       d : ℕ
       d = σ .home c
@@ -56,34 +58,34 @@ module _ (π : Counts) where
       s = shelfOf π k
 
       w : Write
-      w = record { bearing = k; version = made π c k value σ }
+      w = record { bearing = k; version = made π c k p σ }
 
       τ : State
-      τ = setCrew c (made π c k value σ .vector) (settle π d s (σ .crew c) σ)
+      τ = setCrew c (made π c k p σ .vector) (settle π d s (σ .crew c) σ)
 
 module _ (π : Counts) (homes : List ℕ) (u : SetUp π homes) where
-  module _ (h : List Call) (c k value : ℕ) (e : refusal π (run π homes h) (write c k value) ≡ 0) where
+  module _ (h : List Call) (c k : ℕ) (p : Payload) (e : refusal π (run π homes h) (write c k p) ≡ 0) where
     abbrev σ : State
     σ = run π homes h
 
     abbrev v : Version
-    v = made π c k value σ
+    v = made π c k p σ
 
     -- what the home shelf stored, raised and shown
     abbrev old : Version
     old = answered π c k σ
 
     abbrev new : Version
-    new = run π homes (write c k value ∷ h) .shelf (σ .home c) (shelfOf π k) .store k
+    new = run π homes (write c k p ∷ h) .shelf (σ .home c) (shelfOf π k) .store k
 
-    mine : Wrote (ofModel π homes) h (write c k value) c (record { bearing = k; version = v })
-    mine = record { passed = e; makes = (value, refl, refl) }
+    mine : Wrote (ofModel π homes) h (write c k p) c (record { bearing = k; version = v })
+    mine = record { passed = e; makes = (p, refl, refl) }
 
     stores : new ≡ greater (π .depots) old v
-    stores = ap (λ (τ : State). τ .shelf (σ .home c) (shelfOf π k) .store k) (run-done π homes h (write c k value) e) ∙ write-stores π c k value σ
+    stores = ap (λ (τ : State). τ .shelf (σ .home c) (shelfOf π k) .store k) (run-done π homes h (write c k p) e) ∙ write-stores π c k p σ
 
     was-made : (old ≡ unwritten) ⊎ Made (ofModel π homes) h (record { bearing = k; version = old })
-    was-made = answered-made π (Made (ofModel π homes) h) σ (inv π homes u h .sound) (shelf-below π u) c k (write-passed π σ c k value e .crew)
+    was-made = answered-made π (Made (ofModel π homes) h) σ (inv π homes u h .sound) (shelf-below π u) c k (write-passed π σ c k p e .crew)
 
     -- no version before has its stamp
     another : old ≡ v → ⊥
@@ -98,15 +100,15 @@ module _ (π : Counts) (homes : List ℕ) (u : SetUp π homes) where
 
     stays : above (π .depots) (rank v) (rank old) ≡ false → above (π .depots) (rank old) (rank v) ≡ true
     stays t = ⊎-elim (λ same. absurd (another same)) (λ a. a)
-        (at-least π homes u (write c k value ∷ h) old (record { bearing = k; version = v })
+        (at-least π homes u (write c k p ∷ h) old (record { bearing = k; version = v })
         (record { before = h; author = c; at = now mine }) (record { holds = t })
         (⊎-elim inl (λ m. inr (made-more π homes _ m)) was-made))
 
-    said : step π σ (write c k value) .answer ≡ pick (above (π .depots) (rank v) (rank old)) (current (stamp v)) (superseded (stamp v))
+    said : step π σ (write c k p) .answer ≡ pick (above (π .depots) (rank v) (rank old)) (current (stamp v)) (superseded (stamp v))
     unfolding acted made
-    said = ap (λ (o : Outcome). o .answer) (step-done π σ (write c k value) e)
+    said = ap (λ (o : Outcome). o .answer) (step-done π σ (write c k p) e)
 
-    written : WriteAnswers π (ofModel π homes) h (write c k value) c (record { bearing = k; version = v })
+    written : WriteAnswers π (ofModel π homes) h (write c k p) c (record { bearing = k; version = v })
     unfolding made greater
     written = record {
       asked = refl;

@@ -15,6 +15,7 @@ use Rattle.order.proofs.VectorLaws.{covered-intro}
 use Rattle.loops.proofs.BoolLaws.{both-ways}
 use Rattle.model.specs.Parts.{Counts, Version, Write, State, rank, stamp, setShelf, setCrew, stampOf}
 use Rattle.model.specs.Rules.{settled, clear, keep, emit, send}
+use Rattle.paper.specs.declared.answer.Payload.{Payload}
 use Rattle.paper.specs.Calls.{Call, read, write}
 use Rattle.model.specs.Calls.{shelfOf, homeShelf, answered, made, refusal, reading, acted}
 use Rattle.model.specs.System.{ofModel, run}
@@ -30,7 +31,7 @@ use Rattle.model.proofs.Histories.{run-done, made-more, inv, call-chang
 
 module _ (π : Counts) (homes : List ℕ) where
   -- a write leaves its vector with the crew, a read the entrywise maximum
-  write-crew : (h : List Call) (c k v : ℕ) → refusal π (run π homes h) (write c k v) ≡ 0 → run π homes (write c k v ∷ h) .crew c ≡ made π c k v (run π homes h) .vector
+  write-crew : (h : List Call) (c k : ℕ) (v : Payload) → refusal π (run π homes h) (write c k v) ≡ 0 → run π homes (write c k v ∷ h) .crew c ≡ made π c k v (run π homes h) .vector
   unfolding acted send emit keep setShelf setCrew
   write-crew h c k v e = ap (λ (σ : State). σ .crew c) (run-done π homes h (write c k v) e) ∙ put-same c _ _
 

@@ -46,7 +46,7 @@ module _ (π : Counts) (homes : List ℕ) where
   demand2 e = record {
     numbered = λ h q. step-number π (run π homes h) q;
     each-read = λ h c k e. (answered π c k (run π homes h), record { passed = e; gets = (refl, refl) });
-    each-write = λ h c k value e. (record { bearing = k; version = made π c k value (run π homes h) }, record { passed = e; makes = (value, refl, refl) });
+    each-write = λ h c k p e. (record { bearing = k; version = made π c k p (run π homes h) }, record { passed = e; makes = (p, refl, refl) });
     crew-rises = λ l h c x hc hx. history-grows π homes u l h .crew c x;
     hidden = λ h d k hd hk. covered-intro (π .depots) d _ _ (λ x hx n. inv π homes u h .sound .shelf d _ hd (shelf-below π u k) .covers k x (record { below = hx; apart = n }));
     seen-first = λ h d s r x hd hs hr hx n. inv π homes u h .sound .stable d s r x hd hs hr (record { below = hx; apart = n });

@@ -11,20 +11,21 @@ use Rattle.model.specs.Rules.{shownOf, shown, settled, settle, storing, 
 use Rattle.model.specs.Calls.{homeShelf, answered, made, refusal, step, ends}
 use Rattle.model.specs.System.{after, run}
 use Rattle.model.specs.Demands.{MadeAt, now, earlier, Got, Past, wrote, got, kept, under}
+use Rattle.model.specs.Cases.{day}
 use Rattle.model.specs.Words.{three, threeHomes, trio, twentyWritten, thirtySent, thirtyRead, fortyRead, twenty}
 use Rattle.model.proofs.Demand2.{read-shelf}
 use Rattle.model.proofs.Lawful.{dominates, lawful, lawful-agrees}
 use Rattle.model.proofs.Computed.{answersNow, endsNow, ends-computed}
 
 thirty : Write
-thirty = record { bearing = 1; version = made three 0 1 30 (run three threeHomes twentyWritten) }
+thirty = record { bearing = 1; version = made three 0 1 (day 30) (run three threeHomes twentyWritten) }
 
 forty : Write
-forty = record { bearing = 2; version = made three 1 2 40 (run three threeHomes thirtyRead) }
+forty = record { bearing = 2; version = made three 1 2 (day 40) (run three threeHomes thirtyRead) }
 
 -- the calls up to 30's sending, oldest first
 sentCalls : List Call
-sentCalls = write 0 0 20 ∷ (tick 0 1 ∷ (write 0 1 30 ∷ (take 1 0 0 ∷ (take 1 1 0 ∷ (take 1 1 0 ∷ (tick 0 0 ∷ (take 1 0 0 ∷ (refresh 1 1 ∷ []))))))))
+sentCalls = write 0 0 (day 20) ∷ (tick 0 1 ∷ (write 0 1 (day 30) ∷ (take 1 0 0 ∷ (take 1 1 0 ∷ (take 1 1 0 ∷ (tick 0 0 ∷ (take 1 0 0 ∷ (refresh 1 1 ∷ []))))))))
 
 -- the state after them and these, computed
 computed : List Call → State
@@ -47,19 +48,19 @@ after-twenty : run three threeHomes (read 1 0 ∷ thirtyRead) ≡ computed (read
 unfolding thirtyRead thirtySent twentyWritten sentCalls after ends
 after-twenty = computes (read 1 1 ∷ (read 1 0 ∷ []))
 
-after-forty : run three threeHomes (write 1 2 40 ∷ thirtyRead) ≡ computed (read 1 1 ∷ (write 1 2 40 ∷ []))
+after-forty : run three threeHomes (write 1 2 (day 40) ∷ thirtyRead) ≡ computed (read 1 1 ∷ (write 1 2 (day 40) ∷ []))
 unfolding thirtyRead thirtySent twentyWritten sentCalls after ends
-after-forty = computes (read 1 1 ∷ (write 1 2 40 ∷ []))
+after-forty = computes (read 1 1 ∷ (write 1 2 (day 40) ∷ []))
 
 -- the number of a call there
 abbrev numberThere : List Call → Call → ℕ
 numberThere h q = refusal three (run three threeHomes h) q
 
-writes-twenty : numberThere [] (write 0 0 20) ≡ 0
+writes-twenty : numberThere [] (write 0 0 (day 20)) ≡ 0
 unfolding answersNow three threeHomes after
 writes-twenty = refl
 
-writes-thirty : numberThere twentyWritten (write 0 1 30) ≡ 0
+writes-thirty : numberThere twentyWritten (write 0 1 (day 30)) ≡ 0
 unfolding answersNow three threeHomes twentyWritten after step settled shown settle storing keep
 writes-thirty = refl
 
@@ -71,11 +72,11 @@ reads-twenty : numberThere thirtyRead (read 1 0) ≡ 0
 unfolding answersNow three threeHomes
 reads-twenty = refl
 
-writes-forty : numberThere thirtyRead (write 1 2 40) ≡ 0
+writes-forty : numberThere thirtyRead (write 1 2 (day 40)) ≡ 0
 unfolding computed
-writes-forty = ap (λ (σ : State). refusal three σ (write 1 2 40)) after-thirty
+writes-forty = ap (λ (σ : State). refusal three σ (write 1 2 (day 40))) after-thirty
 
-reads-forty : numberThere (write 1 2 40 ∷ thirtyRead) (read 2 2) ≡ 0
+reads-forty : numberThere (write 1 2 (day 40) ∷ thirtyRead) (read 2 2) ≡ 0
 unfolding answersNow three threeHomes
 reads-forty = refl
 
@@ -91,9 +92,9 @@ answers-twenty =
     ∙ ap (λ (d : ℕ). run three threeHomes (read 1 0 ∷ thirtyRead) .shelf d 0 .store 0) (sym (ap (λ (σ : State). σ .home 1) after-thirty))
     ∙ ap (λ (g : Shelf). g .store 0) (read-shelf three threeHomes thirtyRead 1 0 reads-twenty)
 
-answers-forty : forty .version ≡ answered three 2 2 (run three threeHomes (write 1 2 40 ∷ thirtyRead))
+answers-forty : forty .version ≡ answered three 2 2 (run three threeHomes (write 1 2 (day 40) ∷ thirtyRead))
 unfolding computed forty answered homeShelf settled shown shownOf
-answers-forty = ap (λ (σ : State). made three 1 2 40 σ) after-thirty ∙ sym (ap (λ (σ : State). answered three 2 2 σ) after-forty)
+answers-forty = ap (λ (σ : State). made three 1 2 (day 40) σ) after-thirty ∙ sym (ap (λ (σ : State). answered three 2 2 σ) after-forty)
 
 thirty-written : zeros (three .depots) (thirty .version .vector) ≡ false
 unfolding answersNow three threeHomes thirty twentyWritten after step settled shown settle storing keep
@@ -101,15 +102,15 @@ thirty-written = refl
 
 forty-written : zeros (three .depots) (forty .version .vector) ≡ false
 unfolding computed forty
-forty-written = ap (λ (σ : State). zeros (three .depots) (made three 1 2 40 σ .vector)) after-thirty
+forty-written = ap (λ (σ : State). zeros (three .depots) (made three 1 2 (day 40) σ .vector)) after-thirty
 
 wrote-twenty : Past three trio twentyWritten 0 twenty
 unfolding twentyWritten twenty after
-wrote-twenty = kept (wrote (record { passed = writes-twenty; makes = (20, refl, refl) }))
+wrote-twenty = kept (wrote (record { passed = writes-twenty; makes = (day 20, refl, refl) }))
 
 made-thirty : MadeAt trio thirtyRead twentyWritten 0 thirty
 unfolding thirtyRead thirtySent thirty
-made-thirty = earlier (earlier (earlier (earlier (earlier (earlier (earlier (now (record { passed = writes-thirty; makes = (30, refl, refl) }))))))))
+made-thirty = earlier (earlier (earlier (earlier (earlier (earlier (earlier (now (record { passed = writes-thirty; makes = (day 30, refl, refl) }))))))))
 
 pub through-read : Past three trio thirtyRead 1 twenty
 unfolding thirtyRead thirty
@@ -121,4 +122,4 @@ gets-twenty = record { passed = reads-twenty; gets = (refl, answers-twenty) }
 pub through-two : Past three trio fortyRead 2 twenty
 unfolding fortyRead forty
 through-two = under (got (record { passed = reads-forty; gets = (refl, answers-forty) }) forty-written)
-    (earlier (now (record { passed = writes-forty; makes = (40, refl, refl) }))) through-read
+    (earlier (now (record { passed = writes-forty; makes = (day 40, refl, refl) }))) through-read

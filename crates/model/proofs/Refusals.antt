@@ -2,21 +2,25 @@
 -- Assumes nothing.
 use Prim.Native.Nat.{ℕ, suc, _≤_, _<_}
 use native.Mathlib.Omega.{arith}
-use native.Mathlib.Nat.{mod-lt}
+use native.Mathlib.Nat.{mod-lt, le-trans}
 use mathlib.Core.Path.{_≡_, refl, sym, _∙_}
+use mathlib.Core.Logic.{_⊎_, inl, inr, ⊎-elim}
 use mathlib.Core.Bool.{Bool, true, false, not, _&&_, _||_}
 use mathlib.Core.List.{List, [], _∷_}
 use lib.Dec.{eqb, ltb, leb}
 use lib.ListN.{getD, length}
-use borrow.Author.Tests.{eqb-false, ltb-true, ltb-false, leb-true, leb-false, le-ltb, lt-leb, ne-eqb}
+use borrow.Author.Tests.{eqb-true, eqb-false, ltb-true, ltb-false, leb-true, leb-false, le-ltb, lt-leb, ne-eqb}
 use Rattle.loops.specs.Loops.{pick, every}
-use Rattle.loops.proofs.BoolLaws.{and-left, and-right, both-ways}
+use Rattle.loops.proofs.BoolLaws.{and-left, and-right, or-cases, both-ways}
 use Rattle.loops.proofs.LoopLaws.{every-at}
+use Rattle.order.proofs.VectorLaws.{covered-at}
+use Rattle.card.specs.Card.{cardFit}
+use Rattle.paper.specs.declared.answer.Payload.{Payload}
 use Rattle.model.specs.Parts.{Counts, Message, State, mostBearings, fresh, end}
-use Rattle.model.specs.Rules.{roomy}
-use Rattle.paper.specs.Calls.{lastDay, read, write, tick, take, refresh, first}
-use Rattle.model.specs.Calls.{none, within, setup, shelfOf, refusal}
-use Rattle.model.proofs.Places.{Other}
+use Rattle.model.specs.Rules.{roomy, lowestSeen}
+use Rattle.paper.specs.Calls.{lastDay, read, write, tick, take, refresh, move, first}
+use Rattle.model.specs.Calls.{none, within, setup, shelfOf, arrived, refusal}
+use Rattle.model.proofs.Places.{Other, lowest-below}
 
 -- no number comes from the first test, and none from the rest
 pub first-none : (t : Bool) (n : ℕ) (l : List (Bool × ℕ)) → first ((t, suc n) ∷ l) ≡ 0 → (t ≡ false) × (first l ≡ 0)
@@ -49,13 +53,14 @@ first-ends e = omega arith
 
 module _ (π : Counts) where
   -- where its home entry is at most the clock, a crew is not told to wait
-  pub no-wait : (σ : State) (c k v : ℕ) → (c < π .crews → σ .crew c (σ .home c) ≤ σ .shelf (σ .home c) (shelfOf π k) .clock) → refusal π σ (write c k v) ≡ 8 → ⊥
+  pub no-wait : (σ : State) (c k : ℕ) (v : Payload) → (c < π .crews → σ .crew c (σ .home c) ≤ σ .shelf (σ .home c) (shelfOf π k) .clock) → refusal π σ (write c k v) ≡ 8 → ⊥
   unfolding refusal
   no-wait σ c k v ready e =
       let a = first-skips (leb (π .crews) c) 5 8 _ e (λ n. omega arith) in
       let b = first-skips (leb (π .bearings) k) 4 8 _ (a .1) (λ n. omega arith) in
       let y = first-skips _ 16 8 _ (b .1) (λ n. omega arith) in
-      let w = first-failed (ltb (σ .shelf (σ .home c) (shelfOf π k) .clock) (σ .crew c (σ .home c))) 8 8 _ (y .1) (le-ltb _ _ (ready (leb-false _ _ (a .0)))) in
+      let g = first-skips _ 14 8 _ (y .1) (λ n. omega arith) in
+      let w = first-failed (ltb (σ .shelf (σ .home c) (shelfOf π k) .clock) (σ .crew c (σ .home c))) 8 8 _ (g .1) (le-ltb _ _ (ready (leb-false _ _ (a .0)))) in
       let t = first-skips (leb end (σ .shelf (σ .home c) (shelfOf π k) .clock)) 10 8 _ w (λ n. omega arith) in
       let r = first-skips (not (roomy π (σ .home c) (shelfOf π k) σ)) 9 8 _ (t .1) (λ n. omega arith) in
       first-ends (r .1)
@@ -77,7 +82,7 @@ module _ (π : Counts) where
       by (m ∷ l) t = absurd (let z : _≡_ {A = ℕ} 0 7 = sym (take-passes σ d s o m l hd hs a t) ∙ e in omega arith)
 
   -- who waits is a crew
-  pub waits-crew : (σ : State) (c k v : ℕ) → refusal π σ (write c k v) ≡ 8 → c < π .crews
+  pub waits-crew : (σ : State) (c k : ℕ) (v : Payload) → refusal π σ (write c k v) ≡ 8 → c < π .crews
   unfolding refusal
   waits-crew σ c k v e = leb-false _ _ (first-skips (leb (π .crews) c) 5 8 _ e (λ n. omega arith) .0)
 
@@ -92,27 +97,30 @@ module _ (π : Counts) where
       let b = first-none (leb (π .bearings) k) 3 _ (a .1) in
       record { crew = leb-false (π .crews) c (a .0); bearing = leb-false (π .bearings) k (b .0) }
 
-  pub record WritePassed (σ : State) (c k v : ℕ) : Type 0 where
+  pub record WritePassed (σ : State) (c k : ℕ) (v : Payload) : Type 0 where
     pub crew : c < π .crews
     pub bearing : k < π .bearings
-    pub dated : v ≤ lastDay
+    pub dated : v .value ≤ lastDay
+    pub carded : cardFit (v .diameter) (v .width) ≡ true
     pub ready : σ .crew c (σ .home c) ≤ σ .shelf (σ .home c) (shelfOf π k) .clock
     pub below : σ .shelf (σ .home c) (shelfOf π k) .clock < end
     pub room : roomy π (σ .home c) (shelfOf π k) σ ≡ true
 
-  pub write-passed : (σ : State) (c k v : ℕ) → refusal π σ (write c k v) ≡ 0 → WritePassed σ c k v
+  pub write-passed : (σ : State) (c k : ℕ) (v : Payload) → refusal π σ (write c k v) ≡ 0 → WritePassed σ c k v
   unfolding refusal
   write-passed σ c k v e =
       let a = first-none (leb (π .crews) c) 4 _ e in
       let b = first-none (leb (π .bearings) k) 3 _ (a .1) in
       let y = first-none _ 15 _ (b .1) in
-      let w = first-none (ltb (σ .shelf (σ .home c) (shelfOf π k) .clock) (σ .crew c (σ .home c))) 7 _ (y .1) in
+      let g = first-none _ 13 _ (y .1) in
+      let w = first-none (ltb (σ .shelf (σ .home c) (shelfOf π k) .clock) (σ .crew c (σ .home c))) 7 _ (g .1) in
       let t = first-none (leb end (σ .shelf (σ .home c) (shelfOf π k) .clock)) 9 _ (w .1) in
       let r = first-none (not (roomy π (σ .home c) (shelfOf π k) σ)) 8 _ (t .1) in
       record {
         crew = leb-false (π .crews) c (a .0);
         bearing = leb-false (π .bearings) k (b .0);
         dated = ltb-false _ _ (y .0);
+        carded = not-none _ (g .0);
         ready = ltb-false _ _ (w .0);
         below = leb-false _ _ (t .0);
         room = not-none _ (r .0);
@@ -164,6 +172,33 @@ module _ (π : Counts) where
       let a = first-none (leb (π .depots) d) 1 _ e in
       let b = first-none (leb (π .shelves) s) 2 _ (a .1) in
       record { depot = leb-false _ _ (a .0); shelf = leb-false _ _ (b .0) }
+
+  pub record MovePassed (σ : State) (c d : ℕ) : Type 0 where
+    pub crew : c < π .crews
+    pub depot : d < π .depots
+    pub here : (d ≡ σ .home c) ⊎ ((r x : ℕ) → r < π .shelves → Other (π .depots) d x → σ .crew c x ≤ σ .shelf d r .seen x)
+
+  pub move-passed : (σ : State) (c d : ℕ) → refusal π σ (move c d) ≡ 0 → MovePassed σ c d
+  unfolding refusal arrived lowestSeen
+  move-passed σ c d e =
+      let a = first-none (leb (π .crews) c) 4 _ e in
+      let b = first-none (leb (π .depots) d) 1 _ (a .1) in
+      let t = first-none (not (eqb d (σ .home c) || arrived π d (σ .crew c) σ)) 11 _ (b .1) in
+      record {
+        crew = leb-false (π .crews) c (a .0);
+        depot = leb-false (π .depots) d (b .0);
+        here = ⊎-elim (λ (h : eqb d (σ .home c) ≡ true). inl (eqb-true _ _ h))
+            (λ (h : arrived π d (σ .crew c) σ ≡ true). inr (λ r x hr o. le-trans (covered-at (π .depots) d _ _ h x (o .below) (o .apart)) (lowest-below (π .shelves) _ r hr)))
+            (or-cases (eqb d (σ .home c)) (arrived π d (σ .crew c) σ) (not-none _ (t .0)));
+      }
+
+  -- who is not here yet is a crew, and asks for a depot
+  pub move-named : (σ : State) (c d : ℕ) → refusal π σ (move c d) ≡ 12 → (c < π .crews) × (d < π .depots)
+  unfolding refusal
+  move-named σ c d e =
+      let a = first-skips (leb (π .crews) c) 5 12 _ e (λ n. omega arith) in
+      let b = first-skips (leb (π .depots) d) 2 12 _ (a .1) (λ n. omega arith) in
+      (leb-false _ _ (a .0), leb-false _ _ (b .0))
 
   -- what a setup that is done has settled
   pub record SetUp (homes : List ℕ) : Type 0 where

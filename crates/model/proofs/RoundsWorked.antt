@@ -12,7 +12,7 @@ use Rattle.model.specs.Calls.{step, ends}
 use Rattle.model.specs.System.{after, run}
 use Rattle.model.specs.Demands as demands
 use Rattle.model.specs.Demands.{IsTake, a-take, IsRefresh, a-refresh, IsTick, a-tick, Among, Each, Round, Rounds}
-use Rattle.model.specs.Cases.{counts, homes, caseF}
+use Rattle.model.specs.Cases.{counts, homes, day, caseF}
 use Rattle.model.specs.Words.{allRefreshed, allTicked, twoWrites, firstTakes, oneRound, secondTakes, twoRounds, duo, numberAfter}
 use Rattle.model.proofs.Possible.{row, grid, grid-has, grid-each}
 use Rattle.model.proofs.Lawful.{dominates, lawful, lawful-agrees}
@@ -96,9 +96,9 @@ oldestFirst : List Call
 unfolding allTicked allRefreshed firstTakes twoWrites
 oldestFirst = reverse (allTicked ++ (allRefreshed ++ (firstTakes ++ twoWrites)))
 
-pub not-yet : run counts homes oneRound .shelf 1 0 .store 0 .value ≡ 9
+pub not-yet : run counts homes oneRound .shelf 1 0 .store 0 .payload ≡ day 9
 unfolding endsNow dominates lawful counts homes oneRound oldestFirst after ends
-not-yet = ap (λ (σ : State). σ .shelf 1 0 .store 0 .value) (ends-computed counts lawful lawful-agrees (fresh homes) oldestFirst)
+not-yet = ap (λ (σ : State). σ .shelf 1 0 .store 0 .payload) (ends-computed counts lawful lawful-agrees (fresh homes) oldestFirst)
 
 nothing-there : (d s o : ℕ) → d < 2 → s < 2 → o < 2 → Emptied [] d s o
 unfolding answersNow counts homes after

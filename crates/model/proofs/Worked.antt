@@ -14,7 +14,7 @@ use Rattle.paper.specs.Calls.{tick, take}
 use Rattle.model.specs.Calls.{answers, step}
 use Rattle.model.specs.System.{after}
 use Rattle.model.specs.Cases.{counts, homes, listingToB, listing, listingAnswers, stableAfter, caseD, caseDAnswers}
-use Rattle.model.specs.Cases.{caseE, caseEAnswers, caseF, caseFAnswers, manyTicks, manyDone, caseG, caseGAnswers, clockAfter, caseDates, caseDatesAnswers, CasesHold}
+use Rattle.model.specs.Cases.{caseE, caseEAnswers, caseF, caseFAnswers, manyTicks, manyDone, caseG, caseGAnswers, clockAfter, caseDates, caseDatesAnswers, caseCards, caseCardsAnswers, CasesHold}
 use Rattle.model.proofs.Lawful.{dominates, lawful, lawful-agrees, like, knowing, knowing-agrees}
 use Rattle.model.proofs.Computed.{answersNow, endsNow, answers-computed, ends-computed}
 
@@ -69,6 +69,10 @@ pub caseDates-holds : answers counts (fresh homes) caseDates ≡ caseDatesAnswer
 unfolding answersNow dominates lawful counts homes caseDates caseDatesAnswers
 caseDates-holds = answers-computed counts lawful lawful-agrees (fresh homes) caseDates ∙ refl
 
+pub caseCards-holds : answers counts (fresh homes) caseCards ≡ caseCardsAnswers
+unfolding answersNow dominates lawful counts homes caseCards caseCardsAnswers
+caseCards-holds = answers-computed counts lawful lawful-agrees (fresh homes) caseCards ∙ refl
+
 pub cases-hold : CasesHold
 cases-hold = record {
   listed = listing-holds;
@@ -81,4 +85,5 @@ cases-hold = record {
   g-full = caseG-full;
   g-again = caseG-again;
   dates = caseDates-holds;
+  cards = caseCards-holds;
 }

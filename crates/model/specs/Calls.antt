@@ -5,12 +5,14 @@ use mathlib.Core.Bool.{Bool, true, false, _||_, not, _&&_}
 use mathlib.Core.List.{List, [], _∷_, _++_}
 use lib.Dec.{eqb, ltb, leb}
 use lib.ListN.{length, getD}
-use Rattle.paper.specs.Calls.{lastDay, Call, read, write, tick, take, refresh, Told, read-value, read-unwritten, Answer, refused, done, reads, current, superseded, first}
+use Rattle.paper.specs.Calls.{lastDay, Call, read, write, tick, take, refresh, move, Told, read-value, read-unwritten, Answer, refused, done, reads, current, superseded, first}
 use Rattle.loops.specs.Loops.{every, pick}
-use Rattle.order.specs.Vector.{Vec, merged, zeros}
+use Rattle.card.specs.Card.{cardFit}
+use Rattle.paper.specs.declared.answer.Payload.{Payload}
+use Rattle.order.specs.Vector.{Vec, merged, zeros, covered}
 use Rattle.order.specs.Order.{above}
 use Rattle.model.specs.Parts.{mostDepots, mostShelves, mostBearings, mostCrews}
-use Rattle.model.specs.Parts.{Counts, Version, Write, Message, copy, heartbeat, Shelf, State, put, rank, setShelf, setCrew, end}
+use Rattle.model.specs.Parts.{Counts, Version, Write, Message, copy, heartbeat, Shelf, State, put, rank, setShelf, setCrew, setHome, end}
 use Rattle.model.specs.Rules.{settled, settle, keep, send, roomy, taking, lowestSeen}
 
 -- an answer and the state after it
@@ -25,7 +27,7 @@ entries (suc i) u = entries i u ++ (u i ∷ [])
 
 -- what is told of the stored version v, with n depots
 unfoldable pub told : ℕ → Version → Told
-told n v = pick (zeros n (v .vector)) (read-unwritten (entries n (v .vector))) (read-value (v .value) (entries n (v .vector)))
+told n v = pick (zeros n (v .vector)) (read-unwritten (entries n (v .vector))) (read-value (v .payload) (entries n (v .vector)))
 
 -- no untaken message
 unfoldable pub none : List Message → Bool
@@ -56,12 +58,16 @@ module _ (π : Counts) where
   answered c k σ = homeShelf c k σ .store k
 
   -- the version that a write makes: the crew's vector, with the home entry set to the new clock
-  unfoldable pub made : ℕ → ℕ → ℕ → State → Version
-  made c k value σ = record {
-    value = value;
+  unfoldable pub made : ℕ → ℕ → Payload → State → Version
+  made c k p σ = record {
+    payload = p;
     origin = σ .home c;
     vector = put (σ .home c) (suc (σ .shelf (σ .home c) (shelfOf k) .clock)) (σ .crew c);
   }
+
+  -- depot d has seen the vector u: for every other depot, u's entry is at most the lowest stamp that any shelf of d has seen from it
+  unfoldable pub arrived : ℕ → Vec → State → Bool
+  arrived d u σ = covered (π .depots) d u (lowestSeen π d σ)
 
   -- when the desk says no: the checks of each call, in their order
   unfoldable pub refusal : State → Call → ℕ
@@ -69,14 +75,15 @@ module _ (π : Counts) where
       ((leb (π .crews) c, 5)
       ∷ ((leb (π .bearings) k, 4)
       ∷ []))
-  refusal σ (write c k value) = first
+  refusal σ (write c k p) = first
       ((leb (π .crews) c, 5)
       ∷ ((leb (π .bearings) k, 4)
-      ∷ ((ltb lastDay value, 16)
+      ∷ ((ltb lastDay (p .value), 16)
+      ∷ ((not (cardFit (p .diameter) (p .width)), 14)
       ∷ ((ltb (σ .shelf (σ .home c) (shelfOf k) .clock) (σ .crew c (σ .home c)), 8)
       ∷ ((leb end (σ .shelf (σ .home c) (shelfOf k) .clock), 10)
       ∷ ((not (roomy π (σ .home c) (shelfOf k) σ), 9)
-      ∷ []))))))
+      ∷ [])))))))
   refusal σ (tick d s) = first
       ((leb (π .depots) d, 2)
       ∷ ((leb (π .shelves) s, 3)
@@ -93,6 +100,11 @@ module _ (π : Counts) where
       ((leb (π .depots) d, 2)
       ∷ ((leb (π .shelves) s, 3)
       ∷ []))
+  refusal σ (move c d) = first
+      ((leb (π .crews) c, 5)
+      ∷ ((leb (π .depots) d, 2)
+      ∷ ((not (eqb d (σ .home c) || arrived d (σ .crew c) σ), 12)
+      ∷ [])))
 
   -- a read, its home shelf h raised and shown: it answers what h stores, and the crew's vector becomes the entrywise maximum with it
   unfoldable pub reading : ℕ → ℕ → State → Shelf → Outcome
@@ -104,10 +116,10 @@ module _ (π : Counts) where
   -- what a call answers and does where it is not refused
   unfoldable pub acted : State → Call → Outcome
   acted σ (read c k) = reading c k σ (homeShelf c k σ)
-  acted σ (write c k value) =
+  acted σ (write c k p) =
       let d = σ .home c in
       let s = shelfOf k in
-      let v = made c k value σ in
+      let v = made c k p σ in
       let w : Write = record { bearing = k; version = v } in
       record {
         answer = pick (above (π .depots) (rank v) (rank (answered c k σ))) (current (v .vector d)) (superseded (v .vector d));
@@ -124,6 +136,10 @@ module _ (π : Counts) where
   acted σ (refresh d s) = record {
     answer = done;
     state = settle π d s (lowestSeen π d σ) σ;
+  }
+  acted σ (move c d) = record {
+    answer = done;
+    state = setHome c d σ;
   }
 
   -- a call: a refused one changes nothing

@@ -9,7 +9,9 @@ use lib.ListN.{length}
 use Rattle.order.specs.Vector.{covered, zeros}
 use Rattle.order.specs.Order.{above}
 use Rattle.model.specs.Parts.{Counts, Version, Write, rank, stamp, unwritten, lowest, end, room}
-use Rattle.paper.specs.Calls.{lastDay, Call, read, write, tick, take, refresh, reads, current, superseded, numberIn}
+use Rattle.card.specs.Card.{cardFit}
+use Rattle.paper.specs.declared.answer.Payload.{Payload}
+use Rattle.paper.specs.Calls.{lastDay, Call, read, write, tick, take, refresh, move, reads, current, superseded, numberIn}
 use Rattle.model.specs.Calls.{told, shelfOf}
 use Rattle.model.specs.System.{System, after}
 
@@ -28,7 +30,8 @@ pub data IsTick : Call → Type 0 where
 -- a call of crew c's
 pub data By (c : ℕ) : Call → Type 0 where
   a-read : {k : ℕ} → By c (read c k)
-  a-write : {k value : ℕ} → By c (write c k value)
+  a-write : {k : ℕ} {p : Payload} → By c (write c k p)
+  a-move : {d : ℕ} → By c (move c d)
 
 -- the call q is one of the list l
 abbrev pub Among : Call → List Call → Type 0
@@ -44,7 +47,14 @@ AtLeast n a b = (a ≡ b) ⊎ (above n (rank a) (rank b) ≡ true)
 
 -- the version v is unwritten, or its value is a day of the calendar
 abbrev pub Dated : Version → Type 0
-Dated v = (v ≡ unwritten) ⊎ (v .value ≤ lastDay)
+Dated v = (v ≡ unwritten) ⊎ (v .payload .value ≤ lastDay)
+
+-- a payload's card is fit; the version v is unwritten, or its card is
+abbrev pub HasCard : Payload → Type 0
+HasCard p = cardFit (p .diameter) (p .width) ≡ true
+
+abbrev pub Carded : Version → Type 0
+Carded v = (v ≡ unwritten) ⊎ HasCard (v .payload)
 
 -- ---- writes, and the past of a crew
 
@@ -111,7 +121,7 @@ module _ (π : Counts) (S : System) where
   -- the call q, done after history h, is crew c's write w
   pub record WriteAnswers (h : List Call) (q : Call) (c : ℕ) (w : Write) : Type 0 where
     -- what was asked for is made at the crew's home
-    pub asked : q ≡ write c (w .bearing) (w .version .value)
+    pub asked : q ≡ write c (w .bearing) (w .version .payload)
     pub origin : w .version .origin ≡ S .home (after S h) c
     -- the stamp is the clock moved on by one, the other entries are the crew's
     pub stamped : stamp (w .version) ≡ suc (S .clock (after S h) (w .version .origin) (shelfOf π (w .bearing)))
@@ -125,7 +135,7 @@ module _ (π : Counts) (S : System) where
     -- a call's number is that of its answer; each read that is done answers with a version, each write that is done makes one
     pub numbered : (h : List Call) (q : Call) → numberIn (S .answer (after S h) q) ≡ S .number (after S h) q
     pub each-read : (h : List Call) (c k : ℕ) → Done S h (read c k) → (v : Version) × Got S h (read c k) c k v
-    pub each-write : (h : List Call) (c k value : ℕ) → Done S h (write c k value) → (w : Write) × Wrote S h (write c k value) c w
+    pub each-write : (h : List Call) (c k : ℕ) (p : Payload) → Done S h (write c k p) → (w : Write) × Wrote S h (write c k p) c w
     -- a crew's vector never goes down, entry by entry
     pub crew-rises : (l h : List Call) (c x : ℕ) → c < π .crews → x < π .depots → S .crew (after S h) c x ≤ S .crew (after S (l ++ h)) c x
     -- a version is stored at a shelf only if the shelf's stable vector covers it in all entries but the depot's own
@@ -192,7 +202,7 @@ module _ (π : Counts) (S : System) where
         → (d : ℕ) → d < π .depots → AtLeast (π .depots) (S .store (after S h) d (w .bearing)) (w .version)
     -- a crew that is silent for max(0, home entry - m) rounds is not told to wait, at any shelf, m the lowest clock of its home
     pub waits : (g h : List Call) (c : ℕ) → Rounds (S .crew (after S g) c (S .home (after S g) c) - lowestClock g (S .home (after S g) c)) g h → Silent S c g h
-        → (k value : ℕ) → S .number (after S h) (write c k value) ≡ 8 → ⊥
+        → (k : ℕ) (p : Payload) → S .number (after S h) (write c k p) ≡ 8 → ⊥
     -- after every history a round can be made
     pub possible : (h : List Call) → (i : List Call) × RoundOnce h i
 
@@ -212,8 +222,11 @@ module _ (π : Counts) (S : System) where
     pub beats : (l h : List Call) (d s : ℕ) (q : Call) (c : ℕ) (w : Write) → d < π .depots → s < π .shelves → Done S h (tick d s)
         → Wrote S (l ++ (tick d s ∷ h)) q c w → w .version .origin ≡ d → shelfOf π (w .bearing) ≡ s → S .clock (after S (tick d s ∷ h)) d s < stamp (w .version)
     -- every value written is a day of the calendar; so a shelf stores unwritten, or a version whose value is one
-    pub dated : (h : List Call) (w : Write) → Made S h w → w .version .value ≤ lastDay
+    pub dated : (h : List Call) (w : Write) → Made S h w → w .version .payload .value ≤ lastDay
     pub stores-dated : (h : List Call) (d k : ℕ) → d < π .depots → k < π .bearings → Dated (S .store (after S h) d k)
+    -- and every card written is fit; so a shelf stores unwritten, or a version whose card is
+    pub carded : (h : List Call) (w : Write) → Made S h w → HasCard (w .version .payload)
+    pub stores-carded : (h : List Call) (d k : ℕ) → d < π .depots → k < π .bearings → Carded (S .store (after S h) d k)
 
   pub record Demands : Type 0 where
     pub second : Demand2

@@ -4,6 +4,7 @@
 use Prim.Native.Nat.{ℕ, _<_}
 use mathlib.Core.Path.{_≡_}
 use Rattle.model.specs.Parts.{Counts, Version, Write}
+use Rattle.paper.specs.declared.answer.Payload.{Payload}
 use Rattle.paper.specs.Calls.{Call, write}
 use Rattle.model.specs.System.{System}
 
@@ -26,7 +27,7 @@ pub record Alike (π : Counts) (S T : System) (s : S .State) (t : T .State) : Ty
   pub reads : (q : Call) (c k : ℕ) (v : Version) → T .number t q ≡ 0 → T .gets t q c k v → (c < π .crews) × (k < π .bearings)
   pub writes : (q : Call) (c : ℕ) (w : Write) → T .number t q ≡ 0 → T .makes t q c w
       → (c < π .crews) × (w .bearing < π .bearings) × (w .version .origin < π .depots)
-  pub waits : (c k value : ℕ) → T .number t (write c k value) ≡ 8 → c < π .crews
+  pub waits : (c k : ℕ) (p : Payload) → T .number t (write c k p) ≡ 8 → c < π .crews
   pub housed : (c : ℕ) → c < π .crews → T .home t c < π .depots
 
 pub record Follows (π : Counts) (S T : System) : Type 1 where

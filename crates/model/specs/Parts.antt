@@ -8,6 +8,7 @@ use lib.ListN.{getD}
 use Rattle.loops.specs.Loops.{times, pick}
 use Rattle.order.specs.Vector.{Vec}
 use Rattle.order.specs.Order.{Rank, above}
+use Rattle.paper.specs.declared.answer.Payload.{Payload}
 
 -- D depots, P shelves in each, K bearings, C crews, all numbered from 0
 pub record Counts : Type 0 where
@@ -49,9 +50,9 @@ lowest n f = times n (λ i m. min m (f i)) end
 unfoldable pub other : ℕ → ℕ → ℕ → Bool
 other n d x = ltb x n && not (eqb x d)
 
--- a version: value, origin depot, vector; its bearing stands beside it
+-- a version: payload (value and card), origin depot, vector; its bearing stands beside it
 pub record Version : Type 0 where
-  pub value : ℕ
+  pub payload : Payload
   pub origin : ℕ
   pub vector : Vec
 
@@ -62,9 +63,12 @@ stamp v = v .vector (v .origin)
 abbrev pub rank : Version → Rank
 rank v = record { vector = v .vector; origin = v .origin }
 
--- an unwritten bearing has the zero vector
+-- an unwritten bearing has the zero vector, and no card: 0 is no length
+abbrev pub nothing : Payload
+nothing = record { value = 0; diameter = 0; width = 0 }
+
 unfoldable pub unwritten : Version
-unwritten = record { value = 0; origin = 0; vector = λ x. 0 }
+unwritten = record { payload = nothing; origin = 0; vector = λ x. 0 }
 
 -- b where it is greater, else a
 unfoldable pub greater : ℕ → Version → Version → Version
@@ -107,9 +111,12 @@ emptyShelf = record { clock = 0; stable = λ x. 0; seen = λ x. 0; store = λ k.
 unfoldable pub fresh : List ℕ → State
 fresh homes = record { shelf = λ d s. emptyShelf; crew = λ c x. 0; home = λ c. getD homes c 0 }
 
--- the state with the shelf h, or the crew's vector u, put in its place
+-- the state with the shelf h, or the crew's vector u, or its home d, put in its place
 unfoldable pub setShelf : ℕ → ℕ → Shelf → State → State
 setShelf d s h σ = record { shelf = put d (put s h (σ .shelf d)) (σ .shelf); crew = σ .crew; home = σ .home }
 
 unfoldable pub setCrew : ℕ → Vec → State → State
 setCrew c u σ = record { shelf = σ .shelf; crew = put c u (σ .crew); home = σ .home }
+
+unfoldable pub setHome : ℕ → ℕ → State → State
+setHome c d σ = record { shelf = σ .shelf; crew = σ .crew; home = put c d (σ .home) }

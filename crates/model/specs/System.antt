@@ -6,6 +6,7 @@ use mathlib.Core.List.{List, [], _∷_}
 use Rattle.order.specs.Vector.{Vec}
 use Rattle.model.specs.Parts.{Counts, Version, Write, State, fresh}
 use Rattle.model.specs.Rules.{holds}
+use Rattle.paper.specs.declared.answer.Payload.{Payload}
 use Rattle.paper.specs.Calls.{Call, read, write, Answer}
 use Rattle.model.specs.Calls.{shelfOf, made, answered, refusal, step}
 
@@ -50,7 +51,7 @@ ofModel π homes = record {
   seen = λ σ d s. σ .shelf d s .seen;
   held = λ σ d s o. holds o (σ .shelf d s);
   store = λ σ d k. σ .shelf d (shelfOf π k) .store k;
-  makes = λ σ q c w. (value : ℕ) × (q ≡ write c (w .bearing) value) × (w .version ≡ made π c (w .bearing) value σ);
+  makes = λ σ q c w. (p : Payload) × (q ≡ write c (w .bearing) p) × (w .version ≡ made π c (w .bearing) p σ);
   gets = λ σ q c k v. (q ≡ read c k) × (v ≡ answered π c k σ);
 }
 

@@ -8,7 +8,7 @@ use Rattle.paper.specs.Calls.{Call, read, write, tick, take, refresh}
 use Rattle.model.specs.Calls.{made}
 use Rattle.model.specs.System.{System, after, ofModel, run}
 use Rattle.model.specs.Demands.{Silent, Got, Past, Round, Rounds, lowestClock}
-use Rattle.model.specs.Cases.{counts, homes, caseF}
+use Rattle.model.specs.Cases.{counts, homes, day, caseF}
 
 -- ---- the past
 
@@ -24,20 +24,20 @@ trio = ofModel three threeHomes
 
 -- crew 0 writes 20 to bearing 0, then 30 to bearing 1; both are taken at depot 1, where shelf 1 is refreshed and shelf 0 is not
 unfoldable pub twentyWritten : List Call
-twentyWritten = tick 0 1 ∷ (write 0 0 20 ∷ [])
+twentyWritten = tick 0 1 ∷ (write 0 0 (day 20) ∷ [])
 
 unfoldable pub thirtySent : List Call
-thirtySent = refresh 1 1 ∷ (take 1 0 0 ∷ (tick 0 0 ∷ (take 1 1 0 ∷ (take 1 1 0 ∷ (take 1 0 0 ∷ (write 0 1 30 ∷ twentyWritten))))))
+thirtySent = refresh 1 1 ∷ (take 1 0 0 ∷ (tick 0 0 ∷ (take 1 1 0 ∷ (take 1 1 0 ∷ (take 1 0 0 ∷ (write 0 1 (day 30) ∷ twentyWritten))))))
 
 -- crew 1 reads 30, never bearing 0, and writes 40 to bearing 2; crew 2 reads 40, and nothing else
 unfoldable pub thirtyRead : List Call
 thirtyRead = read 1 1 ∷ thirtySent
 
 unfoldable pub fortyRead : List Call
-fortyRead = read 2 2 ∷ (write 1 2 40 ∷ thirtyRead)
+fortyRead = read 2 2 ∷ (write 1 2 (day 40) ∷ thirtyRead)
 
 unfoldable pub twenty : Write
-twenty = record { bearing = 0; version = made three 0 0 20 (fresh threeHomes) }
+twenty = record { bearing = 0; version = made three 0 0 (day 20) (fresh threeHomes) }
 
 -- ---- rounds
 
@@ -49,7 +49,7 @@ allTicked = tick 1 1 ∷ (tick 1 0 ∷ (tick 0 1 ∷ (tick 0 0 ∷ [])))
 
 -- (f): the two writes, then two rounds
 unfoldable pub twoWrites : List Call
-twoWrites = write 1 0 9 ∷ (write 0 0 7 ∷ [])
+twoWrites = write 1 0 (day 9) ∷ (write 0 0 (day 7) ∷ [])
 
 unfoldable pub firstTakes : List Call
 firstTakes = take 0 1 1 ∷ (take 0 0 1 ∷ (take 0 0 1 ∷ (take 1 1 0 ∷ (take 1 0 0 ∷ (take 1 0 0 ∷ [])))))
@@ -67,10 +67,10 @@ twoRounds = allTicked ++ (allRefreshed ++ (secondTakes ++ oneRound))
 
 -- crew 0 writes twice on shelf 0, and from then on asks to write on shelf 1: at once, after one round, and after two
 unfoldable pub twice : List Call
-twice = write 0 0 21 ∷ (write 0 0 20 ∷ [])
+twice = write 0 0 (day 21) ∷ (write 0 0 (day 20) ∷ [])
 
 abbrev pub asks : Call
-asks = write 0 1 30
+asks = write 0 1 (day 30)
 
 unfoldable pub waitedOnce : List Call
 waitedOnce = allTicked ++ (allRefreshed ++ ((take 1 0 0 ∷ (take 1 0 0 ∷ [])) ++ (asks ∷ twice)))
@@ -96,7 +96,7 @@ pub record Words : Type 0 where
   -- (f) is two rounds, then two reads; after one of them depot 1 still stores 9
   pub is-f : reverse twoRounds ++ (read 0 0 ∷ (read 1 0 ∷ [])) ≡ caseF
   pub f-rounds : Rounds counts duo 2 twoWrites twoRounds
-  pub not-yet : run counts homes oneRound .shelf 1 0 .store 0 .value ≡ 9
+  pub not-yet : run counts homes oneRound .shelf 1 0 .store 0 .payload ≡ day 9
   -- where nothing is to be taken, refreshes and ticks are a round; with a read before, between or after them they are none
   pub plain : Round counts duo [] (allTicked ++ allRefreshed)
   pub read-first : Round counts duo [] (allTicked ++ (allRefreshed ++ (read 0 0 ∷ []))) → ⊥

@@ -1,6 +1,6 @@
 -- The parts that a call names: a fit book has them all fit, and what they say where every number is in range.
 -- Assumes nothing.
-use Prim.Native.Nat.{ℕ, _≤_, _%_, _<_}
+use Prim.Native.Nat.{ℕ, _+_, _-_, _≤_, _%_, _<_}
 use native.Mathlib.Nat.{mod-lt}
 use native.Mathlib.Omega.{arith}
 use mathlib.Core.Path.{_≡_, refl, sym, _∙_, ap, ap₂, subst}
@@ -9,7 +9,7 @@ use mathlib.Core.List.{List}
 use mathlib.Core.Bool.{Bool, true, false, _&&_, _||_}
 use lib.Dec.{leb, eqb}
 use lib.ListN.{length}
-use borrow.Author.Tests.{lt-leb, leb-false, eqb-true, eqb-false, eq-eqb, ne-eqb, ltb-true, le-leb}
+use borrow.Author.Tests.{lt-leb, leb-true, leb-false, eqb-true, eqb-false, eq-eqb, ne-eqb, ltb-true, le-leb}
 use Rattle.loops.specs.Loops.{every}
 use Rattle.order.specs.Record.{bearingOf}
 use Rattle.loops.proofs.BoolLaws.{decided, and-left, and-right, and-intro, and-next, or-left, or-right, or-next}
@@ -17,16 +17,28 @@ use Rattle.loops.proofs.LoopLaws.{every-at, every-intro}
 use Rattle.order.proofs.VectorLaws.{covered-at}
 use Rattle.book.specs.declared.parts.Counts.{Counts}
 use Rattle.book.specs.Layout.{bookWords, linkRoom, countsOf, home, seen, linkOf, held, taken, slot, recordOf}
-use Rattle.fit.specs.Fit.{countsFit, Within, homeFit, crewFit, clockFit, stableFit, seenFit, shelfFit, othersInRange, headFit, messagesFit, linkFit, storedFit}
+use Rattle.fit.specs.Fit.{countsFit, Within, homeFit, crewFit, clockFit, stableFit, seenFit, shelfFit, othersInRange, storedFit}
+use Rattle.fit.specs.Fit.{copyFit, messageFit, headFit, messagesFit, linkFit}
 use Rattle.fit.specs.Fit.{homesFit, crewsFit, shelvesFit, linksFit, storesFit, partsFit, fit}
-use Rattle.named.specs.Named.{headsOutFit, placesFit, arrivalFit, showFit, tickParts, takeParts, refreshParts, homeParts, readParts, writeParts}
-use Rattle.named.specs.Named.{baseFit, tickFit, takeFit, refreshFit, readFit, writeFit}
+use Rattle.named.specs.Named.{headsOutFit, waitingFit, placesFit, arrivalFit, showFit, tickParts, takeParts, refreshParts, homeParts, readParts, writeParts, moveParts}
+use Rattle.named.specs.Named.{baseFit, tickFit, takeFit, refreshFit, readFit, writeFit, moveFit}
 use Rattle.fit.proofs.FitLaws.{counts-within, IsFit, fit-open}
 use Rattle.versions.proofs.MessageLaws.{and-flat, link-heads, link-bearings}
 
 -- a test that is asked only of a number in range
 unless : (a : Bool) {b : Bool} → (a ≡ false → b ≡ true) → a || b ≡ true
 unless a {b} h = ⊎-elim (λ (e : a ≡ true). or-left a b e) (λ (e : a ≡ false). or-right a b (h e)) (decided a)
+
+-- a fit link's head and untaken messages are fit
+link-waits : (n : Counts) (l : List ℕ) (s from q : ℕ) → linkFit n l s from q ≡ true → waitingFit n l s from q ≡ true
+unfolding linkFit messagesFit waitingFit
+link-waits n l s from q h =
+    and-intro (and-left (headFit l q) _ h) (and-right (every (taken l q) (λ i. copyFit n s from (slot l q i))) _ (and-right (headFit l q) _ h))
+
+-- and such a head
+pub waiting-room : (n : Counts) (l : List ℕ) (s from q : ℕ) → waitingFit n l s from q ≡ true → held l q ≤ linkRoom
+unfolding waitingFit headFit
+waiting-room n l s from q h = leb-true _ _ (and-left (leb (held l q) linkRoom) _ (and-left (headFit l q) _ h))
 
 -- ---- every part of a fit book
 
@@ -99,11 +111,15 @@ module _ (n : Counts) (l : List ℕ) (h : partsFit n l ≡ true) where
   unfolding takeParts seenFit othersInRange
   take-parts d s from a b c f =
       and-intro (le-leb _ _ (covered-at (n .depots) d (seen l d s) _ (seen-fit d s a b) from c (λ e. eqb-false d from f (sym e))))
-      (link-fit s from d b c a (flip d from f))
+      (link-waits n l s from _ (link-fit s from d b c a (flip d from f)))
 
   refresh-parts : (d s : ℕ) → d < n .depots → s < n .shelves → refreshParts n l d s ≡ true
   unfolding refreshParts
   refresh-parts d s a b = and-intro (every-intro (n .shelves) _ (λ x k. seen-fit d x a k)) (show-fit d s a b)
+
+  move-parts : (c d : ℕ) → c < n .crews → d < n .depots → moveParts n l c d ≡ true
+  unfolding moveParts
+  move-parts c d a b = and-intro (crew-fit c a) (every-intro (n .shelves) _ (λ x k. seen-fit d x b k))
 
   module _ (p : 0 < n .shelves) (c k : ℕ) (hc : c < n .crews) (hk : k < n .bearings) where
     read-parts : readParts n l c k ≡ true
@@ -151,6 +167,10 @@ module _ (l : List ℕ) (h : fit l ≡ true) where
       and-intro fit-base
       (unless _ (λ a. unless _ (λ b. write-parts (countsOf l) l (F .parts) (counts-within (countsOf l) (F .counts) .shelf) c k (leb-false _ _ a) (leb-false _ _ b))))
 
+  pub fit-move : (c d : ℕ) → moveFit l c d ≡ true
+  unfolding moveFit
+  fit-move c d = and-intro fit-base (unless _ (λ a. unless _ (λ b. move-parts (countsOf l) l (F .parts) c d (leb-false _ _ a) (leb-false _ _ b))))
+
 -- ---- what a call may use
 
 -- the length, counts in range, and homes that are depots
@@ -192,6 +212,10 @@ pub write-named : (l : List ℕ) (c k : ℕ) → baseFit l ≡ true → c < coun
 unfolding writeFit
 write-named l c k f a b = and-next _ f ∙ or-next _ (lt-leb _ _ a) ∙ or-next _ (lt-leb _ _ b)
 
+pub move-named : (l : List ℕ) (c d : ℕ) → baseFit l ≡ true → c < countsOf l .crews → d < countsOf l .depots → moveFit l c d ≡ moveParts (countsOf l) l c d
+unfolding moveFit
+move-named l c d f a b = and-next _ f ∙ or-next _ (lt-leb _ _ a) ∙ or-next _ (lt-leb _ _ b)
+
 -- and the length, the counts and the homes are always among them
 pub tick-based : (l : List ℕ) (d s : ℕ) → tickFit l d s ≡ true → baseFit l ≡ true
 unfolding tickFit
@@ -213,6 +237,10 @@ pub write-based : (l : List ℕ) (c k : ℕ) → writeFit l c k ≡ true → bas
 unfolding writeFit
 write-based l c k h = and-left (baseFit l) _ h
 
+pub move-based : (l : List ℕ) (c d : ℕ) → moveFit l c d ≡ true → baseFit l ≡ true
+unfolding moveFit
+move-based l c d h = and-left (baseFit l) _ h
+
 -- ---- the code
 
 -- what arrives on a link, by the two numbers of its head
@@ -231,3 +259,13 @@ arrival-heads n l d s from {q} {h} {t} e p r =
 pub none-arrive : (p : ℕ → Bool) {h t : ℕ} → h ≡ 0 → t ≤ h → every t p ≡ true
 unfolding every
 none-arrive p {h} {t} e k = let z : t ≡ 0 = omega arith in subst (λ (x : ℕ). every x p ≡ true) (sym z) refl
+
+-- what a take judges of the link, by the two numbers of its head
+pub take-heads :
+    (n : Counts) (l : List ℕ) (d s from : ℕ) {q h t : ℕ} → q ≡ linkOf s from d → h ≡ held l q → t ≡ taken l q →
+    waitingFit n l s from (linkOf s from d) ≡ leb h linkRoom && (leb t h && every (h - t) (λ i. messageFit n s from (slot l q (t + i))))
+unfolding waitingFit headFit
+take-heads n l d s from {q} {h} {t} e p r =
+    ap (waitingFit n l s from) (sym e)
+    ∙ ap₂ (λ (x y : ℕ). leb x linkRoom && leb y x && every (x - y) (λ i. messageFit n s from (slot l q (y + i)))) (sym p) (sym r)
+    ∙ and-flat (leb h linkRoom) _ _

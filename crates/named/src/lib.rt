@@ -21,8 +21,8 @@ use fit::shelf::clock_fits;
 use fit::shelf::seen_fits;
 use fit::shelf::stable_fits;
 use versions::link::head_fits;
-use versions::link::link_fits;
 use versions::link::messages_fit;
+use versions::link::waiting_fit;
 use versions::version::stored_fits;
 ghost use mathlib.Core.Path.{_≡_};
 ghost use mathlib.Core.Bool.{_&&_, _||_};
@@ -33,7 +33,7 @@ ghost use Rattle.loops.specs.Loops.{every};
 ghost use Rattle.order.specs.Record.{mostDepots, bearingOf};
 ghost use Rattle.book.specs.Layout.{bookWords, mostShelves, mostCrews, bearingRoom, links, linkRoom, linkOf, slot, recordOf};
 ghost use Rattle.fit.specs.Fit.{Within, seenFit, headFit, storedFit};
-ghost use Rattle.named.specs.Named.{headsOutFit, arrivalFit, showFit, tickParts, takeParts, refreshParts, homeParts, baseFit};
+ghost use Rattle.named.specs.Named.{headsOutFit, arrivalFit, showFit, tickParts, takeParts, refreshParts, homeParts, moveParts, baseFit};
 
 // Whether a book has its length, counts in range, and homes that are depots.
 pub fn base_fits(book: &[u32]) -> bool
@@ -95,7 +95,16 @@ pub fn take_parts_fit(book: &[u32], n: Counts, d: Depot, s: Shelf, from: Depot) 
     if END < book[seen_at(d, s) + from.index()] {
         return false;
     }
-    link_fits(book, n, s, from, Link::between(s, from, d))
+    let q = Link::between(s, from, d);
+    let count = held_of(book, q);
+    let taken = taken_of(book, q);
+    if LINK_ROOM < count {
+        return false;
+    }
+    if count < taken {
+        return false;
+    }
+    waiting_fit(book, n, s, from, q, taken, count - taken)
 }
 
 // Whether the stored version at a depot of the bearing of the copy in slot i of a link is fit.
@@ -235,4 +244,15 @@ pub fn refresh_parts_fit(book: &[u32], n: Counts, d: Depot, s: Shelf) -> bool
         return false;
     }
     show_fits(book, n, d, s)
+}
+
+// Whether what a crew's move to a depot reads is fit.
+pub fn move_parts_fit(book: &[u32], n: Counts, c: Crew, d: Depot) -> bool
+    requires { ⌜ (length (now book) ≡ bookWords) × Within n × (c .0 < mostCrews) × (d .0 < mostDepots) ⌝ }
+    ensures { λ r. ⌜ r ≡ moveParts n (now (book .entry)) (c .0) (d .0) ⌝ }
+{
+    if !crew_fits(book, n, c) {
+        return false;
+    }
+    seen_all_fit(book, n, d)
 }

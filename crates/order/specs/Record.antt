@@ -1,5 +1,5 @@
 -- The version record: nine words, of which the last four have room for the vector's entries.
---   0 bearing · 1 value · 2, 3 spare · 4 origin · 5 .. 8 the vector, one entry a depot
+--   0 bearing · 1 value · 2, 3 the card: the bits of diameter and width · 4 origin · 5 .. 8 the vector, one entry a depot
 -- Assumes nothing.
 use Prim.Native.Nat.{ℕ}
 use mathlib.Core.List.{List}
@@ -21,6 +21,12 @@ bearingOf r = getD r 0 0
 
 abbrev pub valueOf : List ℕ → ℕ
 valueOf r = getD r 1 0
+
+abbrev pub diameterOf : List ℕ → ℕ
+diameterOf r = getD r 2 0
+
+abbrev pub widthOf : List ℕ → ℕ
+widthOf r = getD r 3 0
 
 abbrev pub originOf : List ℕ → ℕ
 originOf r = getD r 4 0

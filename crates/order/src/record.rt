@@ -13,6 +13,10 @@ pub const BEARING: usize = 0;
 
 pub const VALUE: usize = 1;
 
+pub const DIAMETER: usize = 2;
+
+pub const WIDTH: usize = 3;
+
 pub const ORIGIN: usize = 4;
 
 pub const VECTOR: usize = 5;

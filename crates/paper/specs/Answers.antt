@@ -5,7 +5,7 @@ use mathlib.Core.Path.{_≡_}
 use mathlib.Core.List.{List, [], _∷_}
 use lib.ListN.{length, getD, take}
 use Rattle.paper.specs.declared.answer.Refusal.{Refusal}
-use Rattle.paper.specs.declared.answer.Refusal.the-variants.{BadBook, BadDepot, BadShelf, BadKey, BadCrew, SameDepot, EmptyLink, Wait, LinkFull, ClockAtEnd, BadCounts, BadDate}
+use Rattle.paper.specs.declared.answer.Refusal.the-variants.{BadBook, BadDepot, BadShelf, BadKey, BadCrew, SameDepot, EmptyLink, Wait, LinkFull, ClockAtEnd, BadCounts, NotHereYet, BadDate, BadCard}
 use Rattle.paper.specs.declared.answer.Answer as answer
 use Rattle.paper.specs.declared.answer.Finding.{Finding}
 use Rattle.paper.specs.declared.answer.ReadAnswer.{ReadAnswer}
@@ -27,16 +27,18 @@ numberOf Wait = 8
 numberOf LinkFull = 9
 numberOf ClockAtEnd = 10
 numberOf BadCounts = 11
+numberOf NotHereYet = 12
 numberOf BadDate = 16
+numberOf BadCard = 14
 
--- the answer of a setup, a tick, a take or a refresh
+-- the answer of a setup, a tick, a take, a refresh or a move
 unfoldable pub paper : answer.Answer → Answer
 paper answer.Answer.Done = done
 paper (answer.Answer.Refused r) = refused (numberOf r)
 
 -- what a read found, with the entries u of its vector
 unfoldable pub paperFound : Finding → List ℕ → Answer
-paperFound (Finding.Value v) u = reads (read-value v u)
+paperFound (Finding.Value p) u = reads (read-value p u)
 paperFound Finding.Unwritten u = reads (read-unwritten u)
 paperFound (Finding.Refused r) u = refused (numberOf r)
 
@@ -53,7 +55,7 @@ paperWrite (WriteAnswer.Refused r) = refused (numberOf r)
 -- what any request came to, with the entries u of its vector
 unfoldable pub paperOutcome : Outcome → List ℕ → Answer
 paperOutcome Outcome.Done u = done
-paperOutcome (Outcome.Value v) u = reads (read-value v u)
+paperOutcome (Outcome.Value p) u = reads (read-value p u)
 paperOutcome Outcome.Unwritten u = reads (read-unwritten u)
 paperOutcome (Outcome.Current stamp) u = current stamp
 paperOutcome (Outcome.Superseded stamp) u = superseded stamp
@@ -69,7 +71,7 @@ onPaper r = paperOutcome (r .outcome) (take (r .depots) (r .vector))
 unfoldable pub entriesIn : Answer → List ℕ
 entriesIn (refused n) = []
 entriesIn done = []
-entriesIn (reads (read-value v u)) = u
+entriesIn (reads (read-value p u)) = u
 entriesIn (reads (read-unwritten u)) = u
 entriesIn (current stamp) = []
 entriesIn (superseded stamp) = []

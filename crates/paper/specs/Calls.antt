@@ -6,22 +6,25 @@ use mathlib.Core.Bool.{Bool, true, false}
 use mathlib.Core.List.{List, [], _∷_}
 use lib.Dec.{eqb}
 use Rattle.loops.specs.Loops.{pick}
+use Rattle.paper.specs.declared.answer.Payload.{Payload}
 
 -- a value is a day number; the last one is that of 31 December 2399, the calendar's last day
 abbrev pub lastDay : ℕ
 lastDay = 146096
 
--- read (crew, bearing), write (crew, bearing, value), tick (depot, shelf), take (at depot, shelf, from depot), refresh (depot, shelf)
+-- read (crew, bearing), write (crew, bearing, payload: the value and its card), tick (depot, shelf), take (at depot, shelf, from depot), refresh (depot, shelf),
+-- move (crew, new home)
 pub data Call : Type 0 where
   read : ℕ → ℕ → Call
-  write : ℕ → ℕ → ℕ → Call
+  write : ℕ → ℕ → Payload → Call
   tick : ℕ → ℕ → Call
   take : ℕ → ℕ → ℕ → Call
   refresh : ℕ → ℕ → Call
+  move : ℕ → ℕ → Call
 
--- what is told of a bearing: the value or "unwritten", with the vector
+-- what is told of a bearing: the payload or "unwritten", with the vector
 pub data Told : Type 0 where
-  read-value : ℕ → List ℕ → Told
+  read-value : Payload → List ℕ → Told
   read-unwritten : List ℕ → Told
 
 -- a refusal carries its number and nothing else; a read answers what it is told; a write its stamp, and "current" or "superseded"

@@ -1,5 +1,5 @@
 -- What an event with its numbers asks. In their order they are
---   setup: depots, shelves, bearings, crews, then the homes · read: crew, bearing · write: crew, bearing, value
+--   setup: depots, shelves, bearings, crews, then the homes · read: crew, bearing · write: crew, bearing, value, and the bits of diameter and width
 --   tick: depot, shelf · take: at depot, shelf, from depot · refresh: depot, shelf
 -- Assumes nothing.
 use Prim.Native.Nat.{ℕ}
@@ -14,7 +14,7 @@ use Rattle.paper.specs.declared.request.Request.the-variants as request
 unfoldable pub requestIn : Event → List ℕ → Request
 requestIn event.Setup ns = request.Setup (getD ns 0 0) (getD ns 1 0) (getD ns 2 0) (getD ns 3 0)
 requestIn event.Read ns = request.Read (getD ns 0 0) (getD ns 1 0)
-requestIn event.Write ns = request.Write (getD ns 0 0) (getD ns 1 0) (getD ns 2 0)
+requestIn event.Write ns = request.Write (getD ns 0 0) (getD ns 1 0) (record { value = getD ns 2 0; diameter = getD ns 3 0; width = getD ns 4 0 })
 requestIn event.Tick ns = request.Tick (getD ns 0 0) (getD ns 1 0)
 requestIn event.Take ns = request.Take (getD ns 0 0) (getD ns 1 0) (getD ns 2 0)
 requestIn event.Refresh ns = request.Refresh (getD ns 0 0) (getD ns 1 0)

@@ -13,18 +13,27 @@ pub enum Refusal {
     LinkFull,
     ClockAtEnd,
     BadCounts,
+    NotHereYet,
     BadDate,
+    BadCard,
 }
 
-// The answer of a setup, a tick, a take or a refresh.
+// The answer of a setup, a tick, a take, a refresh or a move.
 pub enum Answer {
     Done,
     Refused(Refusal),
 }
 
-// What a read finds: a value, or that the bearing is unwritten.
+// What is written of a bearing: the value, which is a day, and its card as two words, the bits of the outside diameter and of the width.
+pub struct Payload {
+    pub value: u32,
+    pub diameter: u32,
+    pub width: u32,
+}
+
+// What a read finds: a value with its card, or that the bearing is unwritten.
 pub enum Finding {
-    Value(u32),
+    Value(Payload),
     Unwritten,
     Refused(Refusal),
 }
@@ -46,7 +55,7 @@ pub enum WriteAnswer {
 // What any request comes to.
 pub enum Outcome {
     Done,
-    Value(u32),
+    Value(Payload),
     Unwritten,
     Current(u32),
     Superseded(u32),

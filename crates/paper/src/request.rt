@@ -1,4 +1,5 @@
 // What is asked: a setup or a call, with its numbers.
+use crate::answer::Payload;
 ghost use mathlib.Core.Path.{_≡_};
 ghost use lib.ListN.{getD};
 ghost use Rattle.paper.specs.Requests.{requestIn, homesIn};
@@ -6,7 +7,7 @@ ghost use Rattle.paper.specs.Requests.{requestIn, homesIn};
 // The last day that a value may name, 31 December 2399: the calendar's last day.
 pub const LAST_DAY: u32 = 146_096;
 
-// The kinds of request, as the letter of a line names them.
+// The kinds of request that a line can make, as its letter names them. A move is none: the lines are closed.
 pub enum Event {
     Setup,
     Read,
@@ -31,7 +32,7 @@ pub enum Request {
     Write {
         crew: u32,
         bearing: u32,
-        value: u32,
+        payload: Payload,
     },
     Tick {
         depot: u32,
@@ -45,6 +46,10 @@ pub enum Request {
     Refresh {
         depot: u32,
         shelf: u32,
+    },
+    Move {
+        crew: u32,
+        depot: u32,
     },
 }
 
@@ -66,6 +71,7 @@ pub fn request_of(event: Event, numbers: &[u32]) -> Request
     let second = number_at(numbers, 1);
     let third = number_at(numbers, 2);
     let fourth = number_at(numbers, 3);
+    let fifth = number_at(numbers, 4);
     match event {
         Event::Setup => Request::Setup {
             depots: first,
@@ -80,7 +86,11 @@ pub fn request_of(event: Event, numbers: &[u32]) -> Request
         Event::Write => Request::Write {
             crew: first,
             bearing: second,
-            value: third,
+            payload: Payload {
+                value: third,
+                diameter: fourth,
+                width: fifth,
+            },
         },
         Event::Tick => Request::Tick {
             depot: first,

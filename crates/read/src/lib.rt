@@ -1,4 +1,4 @@
-// Read: raise and show with the crew's vector at the home shelf; answer the stored value or that it is unwritten, with its vector; the crew's vector
+// Read: raise and show with the crew's vector at the home shelf; answer the stored value and its card, or that it is unwritten, with its vector; the crew's vector
 // becomes the entrywise maximum with it.
 use book::layout::crew_at;
 use book::layout::stored_at;
@@ -6,12 +6,15 @@ use book::numbers::Bearing;
 use book::numbers::Crew;
 use book::parts::counts_of;
 use named::read_parts_fit;
+use order::record::DIAMETER;
 use order::record::RECORD_WORDS;
 use order::record::VALUE;
 use order::record::VECTOR;
+use order::record::WIDTH;
 use order::vector::is_zero;
 use order::vector::merge;
 use paper::answer::Finding;
+use paper::answer::Payload;
 use paper::answer::ReadAnswer;
 use paper::answer::Refusal;
 use register::check::AskCheck;
@@ -49,7 +52,11 @@ fn tell(version: &[u32], n: usize) -> ReadAnswer
         };
     }
     ReadAnswer {
-        finding: Finding::Value(version[VALUE]),
+        finding: Finding::Value(Payload {
+            value: version[VALUE],
+            diameter: version[DIAMETER],
+            width: version[WIDTH],
+        }),
         vector: vector,
         depots: n,
     }

@@ -9,7 +9,7 @@ use borrow.Author.Tests.{eq-eqb}
 use Rattle.loops.proofs.BoolLaws.{pick-true, pick-false}
 use Rattle.paper.specs.Calls.{Answer, refused, answerBy}
 use Rattle.paper.specs.declared.answer.Refusal.{Refusal}
-use Rattle.paper.specs.declared.answer.Refusal.the-variants.{BadBook, BadDepot, BadShelf, BadKey, BadCrew, SameDepot, EmptyLink, Wait, LinkFull, ClockAtEnd, BadCounts, BadDate}
+use Rattle.paper.specs.declared.answer.Refusal.the-variants.{BadBook, BadDepot, BadShelf, BadKey, BadCrew, SameDepot, EmptyLink, Wait, LinkFull, ClockAtEnd, BadCounts, NotHereYet, BadDate, BadCard}
 use Rattle.book.specs.declared.numbers.Depot.{Depot}
 use Rattle.book.specs.declared.numbers.Shelf.{Shelf}
 use Rattle.book.specs.declared.numbers.Bearing.{Bearing}
@@ -39,7 +39,9 @@ refusal-counts Wait = refl
 refusal-counts LinkFull = refl
 refusal-counts ClockAtEnd = refl
 refusal-counts BadCounts = refl
+refusal-counts NotHereYet = refl
 refusal-counts BadDate = refl
+refusal-counts BadCard = refl
 
 pub not-done : {n : ℕ} (r : Refusal) → n ≡ numberOf r → eqb n 0 ≡ false
 not-done r e = ap (λ (x : ℕ). eqb x 0) e ∙ refusal-counts r

@@ -9,7 +9,8 @@ use mathlib.Core.Bool.{true, _&&_}
 use lib.Dec.{ltb, eqb}
 use borrow.Author.Tests.{leb-true, le-leb, ltb-true, lt-ltb, eqb-true, eq-eqb, ne-eqb}
 use Rattle.order.specs.Vector.{zeros}
-use Rattle.order.specs.Record.{bearingOf, originOf, vectorOf}
+use Rattle.order.specs.Record.{bearingOf, diameterOf, widthOf, originOf, vectorOf}
+use Rattle.card.specs.Card.{cardFit}
 use Rattle.loops.proofs.BoolLaws.{and-left, and-right, and-intro, or-cases, or-left, or-right, pick-true, pick-false}
 use Rattle.loops.proofs.LoopLaws.{every-at, every-intro}
 use Rattle.order.proofs.VectorLaws.{zeros-at}
@@ -23,21 +24,24 @@ pub record VersionOk (n : Counts) (r : List ℕ) : Type 0 where
   pub entries : (x : ℕ) → x < n .depots → vectorOf r x ≤ end
   pub origin : originOf r < n .depots
   pub stamp : 0 < vectorOf r (originOf r)
+  pub card : cardFit (diameterOf r) (widthOf r) ≡ true
 
 pub version-open : (n : Counts) (r : List ℕ) → versionFit n r ≡ true → VersionOk n r
 unfolding versionFit inRange
 version-open n r h =
     let h1 = and-right (inRange (n .depots) (vectorOf r)) _ h in
+    let h2 = and-right (ltb (originOf r) (n .depots)) _ h1 in
     record {
       entries = λ x k. leb-true _ _ (every-at (n .depots) _ (and-left (inRange (n .depots) (vectorOf r)) _ h) x k);
       origin = ltb-true _ _ (and-left (ltb (originOf r) (n .depots)) _ h1);
-      stamp = ltb-true _ _ (and-right (ltb (originOf r) (n .depots)) _ h1);
+      stamp = ltb-true _ _ (and-left (ltb 0 (vectorOf r (originOf r))) _ h2);
+      card = and-right (ltb 0 (vectorOf r (originOf r))) _ h2;
     }
 
 pub version-close : (n : Counts) (r : List ℕ) → VersionOk n r → versionFit n r ≡ true
 unfolding versionFit inRange
 version-close n r h =
-    and-intro (every-intro (n .depots) _ (λ x k. le-leb _ _ (h .entries x k))) (and-intro (lt-ltb _ _ (h .origin)) (lt-ltb 0 _ (h .stamp)))
+    and-intro (every-intro (n .depots) _ (λ x k. le-leb _ _ (h .entries x k))) (and-intro (lt-ltb _ _ (h .origin)) (and-intro (lt-ltb 0 _ (h .stamp)) (h .card)))
 
 pub record CopyOk (n : Counts) (s from : ℕ) (m : List ℕ) : Type 0 where
   pub kind : kindOf m ≡ copyKind

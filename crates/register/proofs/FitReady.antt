@@ -24,6 +24,7 @@ use Rattle.shelf.proofs.FrameLaws.{kept-in-low}
 use Rattle.shelf.proofs.AllLaws.{all-slots-at}
 use Rattle.shelf.proofs.ShowLaws.{takenSlots}
 use Rattle.shelf.proofs.ShowFrame.{settled-off}
+use Rattle.paper.specs.declared.answer.Payload.{Payload}
 use Rattle.register.specs.Table.{shelfOf}
 use Rattle.register.specs.Calls.{settledHome, newStamp, madeRecord, writtenCrew}
 use Rattle.register.proofs.Numbers.{WriteDone}
@@ -99,7 +100,7 @@ read-ready l c k B hc h =
     show-ready (countsOf l) l (B .within) (home l c) (shelfOf l k) (B .homes c hc) (shelf-in (countsOf l) (B .within) k)
     (and-right (storedFit (countsOf l) l (home l c) k) _ (and-right (crewFit (countsOf l) l c) _ h))
 
-module _ (l : List ℕ) (c k value : ℕ) (t : WriteDone l c k value) where
+module _ (l : List ℕ) (c k : ℕ) (payload : Payload) (t : WriteDone l c k payload) where
   pub based : Based l
   based = base-open l (write-based l c k (t .fits))
 
@@ -118,7 +119,7 @@ module _ (l : List ℕ) (c k value : ℕ) (t : WriteDone l c k value) where
   -- a link out counts what it counted: showing only frees incoming links
   pub out-stays :
       (to : ℕ) → to < countsOf l .depots → (to ≡ home l c → ⊥) →
-      held (keptIn (countsOf l .depots) (home l c) (madeRecord l c k value) (writtenCrew l c k)) (linkOf (shelfOf l k) (home l c) to) ≡ held l (linkOf (shelfOf l k) (home l c) to)
+      held (keptIn (countsOf l .depots) (home l c) (madeRecord l c k payload) (writtenCrew l c k)) (linkOf (shelfOf l k) (home l c) to) ≡ held l (linkOf (shelfOf l k) (home l c) to)
   unfolding writtenCrew settledHome
   out-stays to z f =
       let a = based .within .depots in
@@ -127,12 +128,12 @@ module _ (l : List ℕ) (c k value : ℕ) (t : WriteDone l c k value) where
       let g = t .crew in
       let x = hc in
       let y = hs in
-      kept-in-low (countsOf l .depots) (home l c) (madeRecord l c k value) (writtenCrew l c k) (heldAt (linkOf (shelfOf l k) (home l c) to)) (omega arith)
+      kept-in-low (countsOf l .depots) (home l c) (madeRecord l c k payload) (writtenCrew l c k) (heldAt (linkOf (shelfOf l k) (home l c) to)) (omega arith)
       ∙ getD-set-other (settledHome l c k) (crewAt c + home l c) (heldAt (linkOf (shelfOf l k) (home l c) to)) (newStamp l c k) 0 (omega arith)
       ∙ settled-off (countsOf l .depots) (home l c) (shelfOf l k) (crewVector l c) l ready
       (heldAt (linkOf (shelfOf l k) (home l c) to)) (omega arith) (λ from i j. (omega arith, omega arith)) (omega arith)
 
-  pub free : Free (countsOf l .depots) (home l c) (shelfOf l k) (keptIn (countsOf l .depots) (home l c) (madeRecord l c k value) (writtenCrew l c k))
+  pub free : Free (countsOf l .depots) (home l c) (shelfOf l k) (keptIn (countsOf l .depots) (home l c) (madeRecord l c k payload) (writtenCrew l c k))
   free =
       let old = roomy-free (countsOf l) l (based .within) (home l c) (shelfOf l k) hc hs (t .room) in
       record { depots = old .depots; depot = old .depot; shelf = old .shelf; room = λ to z f. subst (λ (x : ℕ). x < 16) (sym (out-stays to z f)) (old .room to z f) }

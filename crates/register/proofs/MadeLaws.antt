@@ -12,6 +12,7 @@ use Rattle.order.specs.Record.{bearingOf, originOf, vectorOf}
 use Rattle.loops.proofs.BoolLaws.{pick-true}
 use Rattle.book.specs.Words.{part}
 use Rattle.book.specs.Layout.{copyKind, countsOf, home, recordOf}
+use Rattle.paper.specs.declared.answer.Payload.{Payload}
 use Rattle.register.specs.Answers.{cut}
 use Rattle.register.specs.Calls.{madeVector, madeRecord}
 
@@ -24,25 +25,25 @@ cut-at n v (suc (suc zero)) h k = pick-true (v 2) 0 (lt-ltb 2 n k)
 cut-at n v (suc (suc (suc zero))) h k = pick-true (v 3) 0 (lt-ltb 3 n k)
 cut-at n v (suc (suc (suc (suc x)))) h k = absurd (omega arith)
 
-pub length-made : (l : List ℕ) (c k value : ℕ) → length (madeRecord l c k value) ≡ 9
+pub length-made : (l : List ℕ) (c k : ℕ) (payload : Payload) → length (madeRecord l c k payload) ≡ 9
 unfolding madeRecord cut
-length-made l c k value = refl
+length-made l c k payload = refl
 
-pub made-entry : (l : List ℕ) (c k value x : ℕ) → countsOf l .depots ≤ 4 → x < countsOf l .depots → vectorOf (madeRecord l c k value) x ≡ madeVector l c k x
+pub made-entry : (l : List ℕ) (c k : ℕ) (payload : Payload) (x : ℕ) → countsOf l .depots ≤ 4 → x < countsOf l .depots → vectorOf (madeRecord l c k payload) x ≡ madeVector l c k x
 unfolding madeRecord
-made-entry l c k value x h z = five x ∙ cut-at (countsOf l .depots) (madeVector l c k) x h z
+made-entry l c k payload x h z = five x ∙ cut-at (countsOf l .depots) (madeVector l c k) x h z
   where
-    five : (y : ℕ) → getD (k ∷ value ∷ 0 ∷ 0 ∷ home l c ∷ cut (countsOf l .depots) (madeVector l c k)) (5 + y) 0 ≡ getD (cut (countsOf l .depots) (madeVector l c k)) y 0
-    five y = sym (getD-drop 5 (k ∷ value ∷ 0 ∷ 0 ∷ home l c ∷ cut (countsOf l .depots) (madeVector l c k)) y 0)
+    five : (y : ℕ) → getD (k ∷ payload .value ∷ payload .diameter ∷ payload .width ∷ home l c ∷ cut (countsOf l .depots) (madeVector l c k)) (5 + y) 0 ≡ getD (cut (countsOf l .depots) (madeVector l c k)) y 0
+    five y = sym (getD-drop 5 (k ∷ payload .value ∷ payload .diameter ∷ payload .width ∷ home l c ∷ cut (countsOf l .depots) (madeVector l c k)) y 0)
 
-pub made-record-of : (l : List ℕ) (c k value : ℕ) → recordOf (copyKind ∷ madeRecord l c k value) ≡ madeRecord l c k value
+pub made-record-of : (l : List ℕ) (c k : ℕ) (payload : Payload) → recordOf (copyKind ∷ madeRecord l c k payload) ≡ madeRecord l c k payload
 unfolding madeRecord cut part
-made-record-of l c k value = refl
+made-record-of l c k payload = refl
 
-pub made-bearing : (l : List ℕ) (c k value : ℕ) → bearingOf (madeRecord l c k value) ≡ k
+pub made-bearing : (l : List ℕ) (c k : ℕ) (payload : Payload) → bearingOf (madeRecord l c k payload) ≡ k
 unfolding madeRecord
-made-bearing l c k value = refl
+made-bearing l c k payload = refl
 
-pub made-origin : (l : List ℕ) (c k value : ℕ) → originOf (madeRecord l c k value) ≡ home l c
+pub made-origin : (l : List ℕ) (c k : ℕ) (payload : Payload) → originOf (madeRecord l c k payload) ≡ home l c
 unfolding madeRecord
-made-origin l c k value = refl
+made-origin l c k payload = refl

@@ -16,6 +16,8 @@ use Rattle.book.specs.Layout.{end, bookWords, countsOf, home, crewVector, clock
 use Rattle.fit.specs.Fit.{countsFit}
 use Rattle.named.specs.Named.{baseFit, tickFit, takeFit, refreshFit, readFit, writeFit}
 use Rattle.links.specs.Send.{roomy}
+use Rattle.card.specs.Card.{cardFit}
+use Rattle.paper.specs.declared.answer.Payload.{Payload}
 use Rattle.paper.specs.Calls.{lastDay, first}
 use Rattle.register.specs.Table.{shelfOf, setupNumber, readNumber, writeNumber, tickNumber, takeNumber, refreshNumber}
 use Rattle.register.specs.Checks.{placeNumber, askedNumber}
@@ -121,23 +123,25 @@ read-done l c k h =
 not-past : (day value : ℕ) → ltb day value ≡ false → leb day lastDay ≡ true → value ≤ lastDay
 not-past day value h k = let a = ltb-false day value h in let b = leb-true day lastDay k in omega (arith, a, b)
 
-pub record WriteDone (l : List ℕ) (c k value : ℕ) : Type 0 where
+pub record WriteDone (l : List ℕ) (c k : ℕ) (payload : Payload) : Type 0 where
   pub fits : writeFit l c k ≡ true
   pub crew : c < countsOf l .crews
   pub bearing : k < countsOf l .bearings
-  pub dated : value ≤ lastDay
+  pub dated : payload .value ≤ lastDay
+  pub carded : cardFit (payload .diameter) (payload .width) ≡ true
   pub waited : crewVector l c (home l c) ≤ clock l (home l c) (shelfOf l k)
   pub clocked : clock l (home l c) (shelfOf l k) < end
   pub room : roomy (countsOf l .depots) (home l c) (shelfOf l k) l ≡ true
 
-pub write-done : (l : List ℕ) (c k value : ℕ) → writeNumber l c k value ≡ 0 → WriteDone l c k value
+pub write-done : (l : List ℕ) (c k : ℕ) (payload : Payload) → writeNumber l c k payload ≡ 0 → WriteDone l c k payload
 unfolding writeNumber
-write-done l c k value h =
+write-done l c k payload h =
     let a = first-passed (not (writeFit l c k)) 1 _ (omega arith) h in
     let b = first-passed (leb (countsOf l .crews) c) 5 _ (omega arith) (a .1) in
     let e = first-passed (leb (countsOf l .bearings) k) 4 _ (omega arith) (b .1) in
     let y = first-passed _ 16 _ (omega arith) (e .1) in
-    let f = first-passed (ltb (clock l (home l c) (shelfOf l k)) (crewVector l c (home l c))) 8 _ (omega arith) (y .1) in
+    let z = first-passed _ 14 _ (omega arith) (y .1) in
+    let f = first-passed (ltb (clock l (home l c) (shelfOf l k)) (crewVector l c (home l c))) 8 _ (omega arith) (z .1) in
     let g = first-passed (leb end (clock l (home l c) (shelfOf l k))) 10 _ (omega arith) (f .1) in
     let i = first-passed (not (roomy (countsOf l .depots) (home l c) (shelfOf l k) l)) 9 _ (omega arith) (g .1) in
     record {
@@ -145,6 +149,7 @@ write-done l c k value h =
       crew = leb-false _ _ (b .0);
       bearing = leb-false _ _ (e .0);
       dated = not-past _ _ (y .0) refl;
+      carded = not-false _ (z .0);
       waited = ltb-false _ _ (f .0);
       clocked = leb-false _ _ (g .0);
       room = not-false _ (i .0);

@@ -11,6 +11,8 @@ use Rattle.book.specs.Layout.{end, countsOf, home, crewVector, clock, linkOf, h
 use Rattle.named.specs.Named.{baseFit, tickParts, takeParts, refreshParts, readParts, writeParts, tickFit, takeFit, refreshFit, readFit, writeFit}
 use Rattle.named.proofs.NamedLaws.{tick-named, take-named, refresh-named, read-named, write-named}
 use Rattle.links.specs.Send.{roomy}
+use Rattle.card.specs.Card.{cardFit}
+use Rattle.paper.specs.declared.answer.Payload.{Payload}
 use Rattle.paper.specs.Calls.{lastDay, first}
 use Rattle.register.specs.Table.{shelfOf, readNumber, refreshNumber, tickNumber, takeNumber, writeNumber}
 use Rattle.register.specs.Checks.{placeNumber, askedNumber, linkNumber}
@@ -108,20 +110,21 @@ module _ (l : List ℕ) (d s from : ℕ) where
 
 -- ---- write
 
-module _ (l : List ℕ) (c k value : ℕ) where
-  pub write-bad : eqb (askedNumber l c k) 0 ≡ false → writeNumber l c k value ≡ askedNumber l c k
+module _ (l : List ℕ) (c k : ℕ) (payload : Payload) where
+  pub write-bad : eqb (askedNumber l c k) 0 ≡ false → writeNumber l c k payload ≡ askedNumber l c k
   unfolding askedNumber writeNumber writeFit
   write-bad h = two-bad (baseFit l) (leb (countsOf l .crews) c) (leb (countsOf l .bearings) k) _ _ _ _ h
 
-  pub write-book : baseFit l ≡ true → c < countsOf l .crews → k < countsOf l .bearings → writeParts (countsOf l) l c k ≡ false → writeNumber l c k value ≡ 1
+  pub write-book : baseFit l ≡ true → c < countsOf l .crews → k < countsOf l .bearings → writeParts (countsOf l) l c k ≡ false → writeNumber l c k payload ≡ 1
   unfolding writeNumber
   write-book f a b h = first-stop _ _ _ (not-failed (write-named l c k f a b ∙ h))
 
   module _ (f : writeFit l c k ≡ true) (hc : c < countsOf l .crews) (hk : k < countsOf l .bearings) where
     asked :
-        writeNumber l c k value
+        writeNumber l c k payload
         ≡ first
-        ((ltb lastDay value, 16)
+        ((ltb lastDay (payload .value), 16)
+        ∷ (not (cardFit (payload .diameter) (payload .width)), 14)
         ∷ (ltb (clock l (home l c) (shelfOf l k)) (crewVector l c (home l c)), 8)
         ∷ (leb end (clock l (home l c) (shelfOf l k)), 10)
         ∷ (not (roomy (countsOf l .depots) (home l c) (shelfOf l k) l), 9)
@@ -129,31 +132,34 @@ module _ (l : List ℕ) (c k value : ℕ) where
     unfolding writeNumber
     asked = first-next _ _ _ (ap not f) ∙ first-next _ _ _ (lt-leb _ _ hc) ∙ first-next _ _ _ (lt-leb _ _ hk)
 
-    pub write-date : lastDay < value → writeNumber l c k value ≡ 16
+    pub write-date : lastDay < payload .value → writeNumber l c k payload ≡ 16
     write-date h = asked ∙ first-stop _ _ _ (lt-ltb _ _ h)
 
-    module _ (hv : value ≤ lastDay) where
+    pub write-card : payload .value ≤ lastDay → cardFit (payload .diameter) (payload .width) ≡ false → writeNumber l c k payload ≡ 14
+    write-card hv hg = asked ∙ first-next _ _ _ (le-ltb _ _ hv) ∙ first-stop _ _ _ (not-failed hg)
+
+    module _ (hv : payload .value ≤ lastDay) (hg : cardFit (payload .diameter) (payload .width) ≡ true) where
       dated :
-          writeNumber l c k value
+          writeNumber l c k payload
           ≡ first
           ((ltb (clock l (home l c) (shelfOf l k)) (crewVector l c (home l c)), 8)
           ∷ (leb end (clock l (home l c) (shelfOf l k)), 10)
           ∷ (not (roomy (countsOf l .depots) (home l c) (shelfOf l k) l), 9)
           ∷ [])
-      dated = asked ∙ first-next _ _ _ (le-ltb _ _ hv)
+      dated = asked ∙ first-next _ _ _ (le-ltb _ _ hv) ∙ first-next _ _ _ (ap not hg)
 
-      pub write-wait : clock l (home l c) (shelfOf l k) < crewVector l c (home l c) → writeNumber l c k value ≡ 8
+      pub write-wait : clock l (home l c) (shelfOf l k) < crewVector l c (home l c) → writeNumber l c k payload ≡ 8
       write-wait h = dated ∙ first-stop _ _ _ (lt-ltb _ _ h)
 
-      pub write-end : crewVector l c (home l c) ≤ clock l (home l c) (shelfOf l k) → end ≤ clock l (home l c) (shelfOf l k) → writeNumber l c k value ≡ 10
+      pub write-end : crewVector l c (home l c) ≤ clock l (home l c) (shelfOf l k) → end ≤ clock l (home l c) (shelfOf l k) → writeNumber l c k payload ≡ 10
       write-end h e = dated ∙ first-next _ _ _ (le-ltb _ _ h) ∙ first-stop _ _ _ (le-leb _ _ e)
 
       pub write-full :
           crewVector l c (home l c) ≤ clock l (home l c) (shelfOf l k) → clock l (home l c) (shelfOf l k) < end →
-          roomy (countsOf l .depots) (home l c) (shelfOf l k) l ≡ false → writeNumber l c k value ≡ 9
+          roomy (countsOf l .depots) (home l c) (shelfOf l k) l ≡ false → writeNumber l c k payload ≡ 9
       write-full h e r = dated ∙ first-next _ _ _ (le-ltb _ _ h) ∙ first-next _ _ _ (lt-leb _ _ e) ∙ first-stop _ _ _ (not-failed r)
 
       pub write-good :
           crewVector l c (home l c) ≤ clock l (home l c) (shelfOf l k) → clock l (home l c) (shelfOf l k) < end →
-          roomy (countsOf l .depots) (home l c) (shelfOf l k) l ≡ true → writeNumber l c k value ≡ 0
+          roomy (countsOf l .depots) (home l c) (shelfOf l k) l ≡ true → writeNumber l c k payload ≡ 0
       write-good h e r = dated ∙ first-next _ _ _ (le-ltb _ _ h) ∙ first-next _ _ _ (lt-leb _ _ e) ∙ first-next _ _ _ (ap not r) ∙ first-none

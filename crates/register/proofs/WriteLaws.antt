@@ -18,17 +18,28 @@ use Rattle.loops.proofs.BoolLaws.{eq-or-ne, pick-true, pick-false}
 use Rattle.book.specs.Words.{put}
 use Rattle.book.specs.Layout.{copyKind, crewAt, storedAt, countsOf, home, crewVector, stored}
 use Rattle.book.proofs.WordsLaws.{part-from}
+use Rattle.card.specs.declared.Card.{Card}
+use Rattle.card.specs.declared.CardCheck.the-variants.{Good}
+use Rattle.card.specs.Card.{cardAnswer}
+use Rattle.card.proofs.Theorems.{words-back}
 use Rattle.shelf.specs.Asks.{Ready, Free}
 use Rattle.shelf.specs.Show.{keptIn, settled}
 use Rattle.links.specs.Send.{sent, fourOf}
 use Rattle.register.specs.Answers.{cut, written}
+use Rattle.paper.specs.declared.answer.Payload.{Payload}
 use Rattle.paper.specs.Calls.{Answer}
 use Rattle.register.specs.Checks.{MayWrite}
-use Rattle.register.specs.Calls.{settledHome, newStamp, withEntry, madeVector, madeRecord, writtenCrew, isCurrent, writeBook}
+use Rattle.register.specs.Calls.{settledHome, newStamp, withEntry, payloadFrom, madeVector, madeRecord, writtenCrew, isCurrent, writeBook}
 use Rattle.register.proofs.Numbers.{WriteDone, write-done}
 use Rattle.named.proofs.NamedLaws.{Based}
 use Rattle.register.proofs.FitReady.{based, ready, free}
 use Rattle.register.proofs.HomeLaws.{cut-same, four-at}
+
+-- ---- the card
+
+-- a card made of two words has these words
+pub payload-back : (p : Payload) (card : Card) → cardAnswer (p .diameter) (p .width) ≡ Good card → payloadFrom (p .value) card ≡ p
+payload-back p card e = let w = words-back (p .diameter) (p .width) card e in λ i. record { value = p .value; diameter = w .0 i; width = w .1 i }
 
 -- ---- the version
 
@@ -66,12 +77,12 @@ module _ (n d k : ℕ) (l r : List ℕ) {to : ℕ} {b : Bool} (et : to ≡ store
 
 -- ---- the whole write
 
-module _ (l : List ℕ) (c k value : ℕ) {n d s stamp : ℕ} (M : MayWrite l c k value n d s stamp) where
-  pub copy-made : {m : List ℕ} → m ≡ copyKind ∷ k ∷ value ∷ 0 ∷ 0 ∷ d ∷ cut n (withEntry d stamp (crewVector l c)) → m ≡ copyKind ∷ madeRecord l c k value
+module _ (l : List ℕ) (c k : ℕ) (payload : Payload) {n d s stamp : ℕ} (M : MayWrite l c k payload n d s stamp) where
+  pub copy-made : {m : List ℕ} → m ≡ copyKind ∷ k ∷ payload .value ∷ payload .diameter ∷ payload .width ∷ d ∷ cut n (withEntry d stamp (crewVector l c)) → m ≡ copyKind ∷ madeRecord l c k payload
   unfolding madeRecord madeVector withEntry
-  copy-made p = p ∙ (λ z. copyKind ∷ k ∷ value ∷ 0 ∷ 0 ∷ M .depot z ∷ cut (M .depots z) (withEntry (M .depot z) (M .stamped z) (crewVector l c)))
+  copy-made p = p ∙ (λ z. copyKind ∷ k ∷ payload .value ∷ payload .diameter ∷ payload .width ∷ M .depot z ∷ cut (M .depots z) (withEntry (M .depot z) (M .stamped z) (crewVector l c)))
 
-  pub record-made : {m : List ℕ} → m ≡ copyKind ∷ madeRecord l c k value → take (10 - 1) (drop 1 m) ≡ madeRecord l c k value
+  pub record-made : {m : List ℕ} → m ≡ copyKind ∷ madeRecord l c k payload → take (10 - 1) (drop 1 m) ≡ madeRecord l c k payload
   unfolding madeRecord cut
   record-made e = ap (λ (w : List ℕ). take (10 - 1) (drop 1 w)) e
 
@@ -79,36 +90,36 @@ module _ (l : List ℕ) (c k value : ℕ) {n d s stamp : ℕ} (M : MayWrite l c 
   unfolding writtenCrew settledHome
   crew-made p = p ∙ (λ z. set (settled (M .depots z) (M .depot z) (M .shelf z) (crewVector l c) l) (crewAt c + M .depot z) (M .stamped z))
 
-  module _ {r m₁ : List ℕ} (er : r ≡ madeRecord l c k value) (em : m₁ ≡ writtenCrew l c k) where
-    pub current-made : {b : Bool} → b ≡ above n (rankOf r) (rankOf (stored m₁ d k)) → b ≡ isCurrent l c k value
+  module _ {r m₁ : List ℕ} (er : r ≡ madeRecord l c k payload) (em : m₁ ≡ writtenCrew l c k) where
+    pub current-made : {b : Bool} → b ≡ above n (rankOf r) (rankOf (stored m₁ d k)) → b ≡ isCurrent l c k payload
     unfolding isCurrent
     current-made p = p ∙ (λ z. above (M .depots z) (rankOf (er z)) (rankOf (stored (em z) (M .depot z) k)))
 
-    pub store-made : {m₂ : List ℕ} → m₂ ≡ keptIn n d r m₁ → m₂ ≡ keptIn (countsOf l .depots) (home l c) (madeRecord l c k value) (writtenCrew l c k)
+    pub store-made : {m₂ : List ℕ} → m₂ ≡ keptIn n d r m₁ → m₂ ≡ keptIn (countsOf l .depots) (home l c) (madeRecord l c k payload) (writtenCrew l c k)
     store-made p = p ∙ (λ z. keptIn (M .depots z) (M .depot z) (er z) (em z))
 
   pub sent-made :
-      {m m₂ m₃ : List ℕ} → m ≡ copyKind ∷ madeRecord l c k value → m₂ ≡ keptIn (countsOf l .depots) (home l c) (madeRecord l c k value) (writtenCrew l c k) →
-      m₃ ≡ sent n d s stamp m m₂ → m₃ ≡ writeBook l c k value
+      {m m₂ m₃ : List ℕ} → m ≡ copyKind ∷ madeRecord l c k payload → m₂ ≡ keptIn (countsOf l .depots) (home l c) (madeRecord l c k payload) (writtenCrew l c k) →
+      m₃ ≡ sent n d s stamp m m₂ → m₃ ≡ writeBook l c k payload
   unfolding writeBook
   sent-made e e₂ p = p ∙ (λ z. sent (M .depots z) (M .depot z) (M .shelf z) (M .stamped z) (e z) (e₂ z))
 
-  pub answer-made : {b : Bool} {a : Answer} → b ≡ isCurrent l c k value → a ≡ written stamp b → a ≡ written (newStamp l c k) (isCurrent l c k value)
+  pub answer-made : {b : Bool} {a : Answer} → b ≡ isCurrent l c k payload → a ≡ written stamp b → a ≡ written (newStamp l c k) (isCurrent l c k payload)
   answer-made e p = p ∙ (λ z. written (M .stamped z) (e z))
 
   -- what is known on the way
-  pub may-done : WriteDone l c k value
-  may-done = write-done l c k value (M .passed)
+  pub may-done : WriteDone l c k payload
+  may-done = write-done l c k payload (M .passed)
 
   pub may-based : Based l
-  may-based = based l c k value may-done
+  may-based = based l c k payload may-done
 
   pub may-ready : Ready n d s l
-  may-ready = subst₃ (λ (x y z : ℕ). Ready x y z l) (sym (M .depots)) (sym (M .depot)) (sym (M .shelf)) (ready l c k value may-done)
+  may-ready = subst₃ (λ (x y z : ℕ). Ready x y z l) (sym (M .depots)) (sym (M .depot)) (sym (M .shelf)) (ready l c k payload may-done)
 
   pub may-free :
-      {m₂ : List ℕ} → m₂ ≡ keptIn (countsOf l .depots) (home l c) (madeRecord l c k value) (writtenCrew l c k) → Free n d s m₂
+      {m₂ : List ℕ} → m₂ ≡ keptIn (countsOf l .depots) (home l c) (madeRecord l c k payload) (writtenCrew l c k) → Free n d s m₂
   may-free e =
       subst (λ (w : List ℕ). Free n d s w) (sym e)
-      (subst₃ (λ (x y z : ℕ). Free x y z (keptIn (countsOf l .depots) (home l c) (madeRecord l c k value) (writtenCrew l c k))) (sym (M .depots)) (sym (M .depot)) (sym (M .shelf))
-      (free l c k value may-done))
+      (subst₃ (λ (x y z : ℕ). Free x y z (keptIn (countsOf l .depots) (home l c) (madeRecord l c k payload) (writtenCrew l c k))) (sym (M .depots)) (sym (M .depot)) (sym (M .shelf))
+      (free l c k payload may-done))

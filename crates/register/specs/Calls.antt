@@ -9,6 +9,9 @@ use Rattle.loops.specs.Loops.{pick}
 use Rattle.order.specs.Vector.{Vec, mergedAt}
 use Rattle.order.specs.Order.{above}
 use Rattle.order.specs.Record.{vectorOf, rankOf}
+use Rattle.card.specs.declared.Card.{Card}
+use Rattle.card.specs.Card.{wordOf}
+use Rattle.paper.specs.declared.answer.Payload.{Payload}
 use Rattle.book.specs.declared.parts.Counts.{Counts}
 use Rattle.book.specs.Words.{put}
 use Rattle.book.specs.Layout.{bookWords, homeAt, crewAt, copyKind, countsOf, home, crewVector, clock, stored}
@@ -42,22 +45,22 @@ newStamp l c k = clock l (home l c) (shelfOf l k) + 1
 unfoldable pub madeVector : List ℕ → ℕ → ℕ → Vec
 madeVector l c k x = pick (eqb x (home l c)) (newStamp l c k) (crewVector l c x)
 
-unfoldable pub madeRecord : List ℕ → ℕ → ℕ → ℕ → List ℕ
-madeRecord l c k value = k ∷ value ∷ 0 ∷ 0 ∷ home l c ∷ cut (countsOf l .depots) (madeVector l c k)
+unfoldable pub madeRecord : List ℕ → ℕ → ℕ → Payload → List ℕ
+madeRecord l c k payload = k ∷ payload .value ∷ payload .diameter ∷ payload .width ∷ home l c ∷ cut (countsOf l .depots) (madeVector l c k)
 
 -- raise and show, and the version's vector becomes the crew's
 unfoldable pub writtenCrew : List ℕ → ℕ → ℕ → List ℕ
 writtenCrew l c k = set (settledHome l c k) (crewAt c + home l c) (newStamp l c k)
 
 -- the version is greater than what is stored
-unfoldable pub isCurrent : List ℕ → ℕ → ℕ → ℕ → Bool
-isCurrent l c k value = above (countsOf l .depots) (rankOf (madeRecord l c k value)) (rankOf (stored (writtenCrew l c k) (home l c) k))
+unfoldable pub isCurrent : List ℕ → ℕ → ℕ → Payload → Bool
+isCurrent l c k payload = above (countsOf l .depots) (rankOf (madeRecord l c k payload)) (rankOf (stored (writtenCrew l c k) (home l c) k))
 
 -- write: it is stored if greater, and either way a copy goes on every link out of that shelf
-unfoldable pub writeBook : List ℕ → ℕ → ℕ → ℕ → List ℕ
-writeBook l c k value =
-    sent (countsOf l .depots) (home l c) (shelfOf l k) (newStamp l c k) (copyKind ∷ madeRecord l c k value)
-    (keptIn (countsOf l .depots) (home l c) (madeRecord l c k value) (writtenCrew l c k))
+unfoldable pub writeBook : List ℕ → ℕ → ℕ → Payload → List ℕ
+writeBook l c k payload =
+    sent (countsOf l .depots) (home l c) (shelfOf l k) (newStamp l c k) (copyKind ∷ madeRecord l c k payload)
+    (keptIn (countsOf l .depots) (home l c) (madeRecord l c k payload) (writtenCrew l c k))
 
 -- tick: the clock moves on by one; a heartbeat with it goes on every link out
 unfoldable pub tickBook : List ℕ → ℕ → ℕ → List ℕ
@@ -71,12 +74,20 @@ takeBook l d s from = took d s from l
 unfoldable pub refreshBook : List ℕ → ℕ → ℕ → List ℕ
 refreshBook l d s = settled (countsOf l .depots) d s (lowestSeen (countsOf l .depots) (countsOf l .shelves) d l) l
 
+-- move: the crew's home is the new one, and no other word changes
+unfoldable pub moveBook : List ℕ → ℕ → ℕ → List ℕ
+moveBook l c d = set l (homeAt c) d
+
 -- ---- the version that a write makes, as its words
 
 -- a vector with one entry set
 unfoldable pub withEntry : ℕ → ℕ → Vec → Vec
 withEntry d stamp v x = pick (eqb x d) stamp (v x)
 
+-- a value and a card, as they were written
+abbrev pub payloadFrom : ℕ → Card → Payload
+payloadFrom value card = record { value = value; diameter = wordOf (card .diameter); width = wordOf (card .width) }
+
 abbrev pub versionWords : Version → List ℕ
 versionWords v =
-    v .bearing ∷ v .value ∷ 0 ∷ 0 ∷ v .origin ∷ getD (v .vector) 0 0 ∷ getD (v .vector) 1 0 ∷ getD (v .vector) 2 0 ∷ getD (v .vector) 3 0 ∷ []
+    v .bearing ∷ v .value ∷ wordOf (v .card .diameter) ∷ wordOf (v .card .width) ∷ v .origin ∷ getD (v .vector) 0 0 ∷ getD (v .vector) 1 0 ∷ getD (v .vector) 2 0 ∷ getD (v .vector) 3 0 ∷ []

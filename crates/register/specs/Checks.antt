@@ -10,6 +10,7 @@ use Rattle.register.specs.declared.check.AskCheck.{AskCheck}
 use Rattle.register.specs.declared.check.LinkCheck.{LinkCheck}
 use Rattle.book.specs.Layout.{countsOf, home, clock}
 use Rattle.named.specs.Named.{baseFit}
+use Rattle.paper.specs.declared.answer.Payload.{Payload}
 use Rattle.paper.specs.Calls.{first}
 use Rattle.register.specs.Table.{shelfOf, writeNumber}
 use Rattle.paper.specs.Answers.{numberOf}
@@ -53,9 +54,9 @@ unfoldable pub LinkChecked : ℕ → ℕ → ℕ → ℕ → LinkCheck → Type 
 LinkChecked number d s from (LinkCheck.Good a b e) = (number ≡ 0) × (record { 0 = d } ≡ a) × (record { 0 = s } ≡ b) × (record { 0 = from } ≡ e)
 LinkChecked number d s from (LinkCheck.Bad r) = number ≡ numberOf r
 
--- crew c may write this value to bearing k, at its home: n depots, home depot d, shelf s, and the stamp that it gets
-pub record MayWrite (l : List ℕ) (c k value n d s stamp : ℕ) : Type 0 where
-  pub passed : writeNumber l c k value ≡ 0
+-- crew c may write this payload to bearing k, at its home: n depots, home depot d, shelf s, and the stamp that it gets
+pub record MayWrite (l : List ℕ) (c k : ℕ) (payload : Payload) (n d s stamp : ℕ) : Type 0 where
+  pub passed : writeNumber l c k payload ≡ 0
   pub depots : n ≡ countsOf l .depots
   pub depot : d ≡ home l c
   pub shelf : s ≡ shelfOf l k

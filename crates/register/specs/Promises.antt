@@ -10,12 +10,13 @@ use Rattle.book.specs.declared.parts.Counts.{Counts}
 use Rattle.book.specs.Layout.{countsOf}
 use Rattle.paper.specs.Calls.{done, reads, answerBy}
 use Rattle.paper.specs.declared.answer.Answer.{Answer}
+use Rattle.paper.specs.declared.answer.Payload.{Payload}
 use Rattle.paper.specs.declared.answer.ReadAnswer.{ReadAnswer}
 use Rattle.paper.specs.declared.answer.WriteAnswer.{WriteAnswer}
 use Rattle.paper.specs.Answers.{paper, paperRead, paperWrite, Holds}
 use Rattle.register.specs.Answers.{told, written}
-use Rattle.register.specs.Table.{setupNumber, readNumber, writeNumber, tickNumber, takeNumber, refreshNumber}
-use Rattle.register.specs.Calls.{setUp, readRecord, readBook, newStamp, isCurrent, writeBook, tickBook, takeBook, refreshBook}
+use Rattle.register.specs.Table.{setupNumber, readNumber, writeNumber, tickNumber, takeNumber, refreshNumber, moveNumber}
+use Rattle.register.specs.Calls.{setUp, readRecord, readBook, newStamp, isCurrent, writeBook, tickBook, takeBook, refreshBook, moveBook}
 
 -- the book after a call with this number: changed if done, else as it was
 unfoldable pub after : ℕ → List ℕ → List ℕ → List ℕ
@@ -30,9 +31,9 @@ pub record Read (l : List ℕ) (c k : ℕ) (r : ReadAnswer) (l′ : List ℕ) : 
   pub holds : Holds (paperRead r) (r .vector) (r .depots)
   pub book : l′ ≡ after (readNumber l c k) (readBook l c k) l
 
-pub record Write (l : List ℕ) (c k value : ℕ) (r : WriteAnswer) (l′ : List ℕ) : Type 0 where
-  pub answer : paperWrite r ≡ answerBy (writeNumber l c k value) (written (newStamp l c k) (isCurrent l c k value))
-  pub book : l′ ≡ after (writeNumber l c k value) (writeBook l c k value) l
+pub record Write (l : List ℕ) (c k : ℕ) (payload : Payload) (r : WriteAnswer) (l′ : List ℕ) : Type 0 where
+  pub answer : paperWrite r ≡ answerBy (writeNumber l c k payload) (written (newStamp l c k) (isCurrent l c k payload))
+  pub book : l′ ≡ after (writeNumber l c k payload) (writeBook l c k payload) l
 
 pub record Tick (l : List ℕ) (d s : ℕ) (r : Answer) (l′ : List ℕ) : Type 0 where
   pub answer : paper r ≡ answerBy (tickNumber l d s) done
@@ -45,3 +46,7 @@ pub record Take (l : List ℕ) (d s from : ℕ) (r : Answer) (l′ : List ℕ) :
 pub record Refresh (l : List ℕ) (d s : ℕ) (r : Answer) (l′ : List ℕ) : Type 0 where
   pub answer : paper r ≡ answerBy (refreshNumber l d s) done
   pub book : l′ ≡ after (refreshNumber l d s) (refreshBook l d s) l
+
+pub record Move (l : List ℕ) (c d : ℕ) (r : Answer) (l′ : List ℕ) : Type 0 where
+  pub answer : paper r ≡ answerBy (moveNumber l c d) done
+  pub book : l′ ≡ after (moveNumber l c d) (moveBook l c d) l

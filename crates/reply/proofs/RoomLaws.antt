@@ -1,6 +1,6 @@
--- No answer is longer than its room, with at most four entries; so each has its room where 64 bytes are free. And a reply, known by its outcome.
+-- No answer is longer than its room, with at most four entries; so each has its room where that many bytes are free. And a reply, known by its outcome.
 -- Assumes nothing.
-use Prim.Native.Nat.{ℕ, _+_, _≤_}
+use Prim.Native.Nat.{ℕ, _+_, _≤_, _<_}
 use native.Mathlib.Omega.{arith}
 use mathlib.Core.Path.{_≡_, sym, ap}
 use mathlib.Core.List.{List}
@@ -11,20 +11,20 @@ use Rattle.paper.specs.Answers.{paperOutcome, onPaper, entriesIn, padded, Holds
 use Rattle.paper.specs.declared.answer.Outcome.{Outcome}
 use Rattle.paper.specs.declared.answer.Reply.{Reply}
 use Rattle.line.specs.Printing.{Room, Wrote}
-use Rattle.line.proofs.PrintLaws.{room-enough, wrote-same, decimal-length, value-answer-length, unwritten-answer-length, stamp-answer-length}
-use Rattle.reply.specs.Printed.{printed}
+use Rattle.line.proofs.PrintLaws.{wrote-same, decimal-length, value-answer-length, unwritten-answer-length, stamp-answer-length}
+use Rattle.reply.specs.Printed.{printed, answerRoom}
 
-pub printed-length : (a : Answer) → length (entriesIn a) ≤ 4 → length (printed a) ≤ 63
+pub printed-length : (a : Answer) → length (entriesIn a) ≤ 4 → length (printed a) < answerRoom
 unfolding printed entriesIn
 printed-length (refused n) h = let l = decimal-length n in omega arith
 printed-length done h = let l = decimal-length 0 in omega arith
-printed-length (reads (read-value v entries)) h = let l = value-answer-length v entries in omega arith
+printed-length (reads (read-value p entries)) h = let l = value-answer-length p entries in omega arith
 printed-length (reads (read-unwritten entries)) h = let l = unwritten-answer-length entries in omega arith
 printed-length (current stamp) h = let l = stamp-answer-length stamp true in omega arith
 printed-length (superseded stamp) h = let l = stamp-answer-length stamp false in omega arith
 
-pub printed-room : {o : List ℕ} {at : ℕ} (a : Answer) → length (entriesIn a) ≤ 4 → at + 64 ≤ length o → Room o at (printed a)
-printed-room a h k = room-enough _ 63 (printed-length a h) (omega arith)
+pub printed-room : {o : List ℕ} {at : ℕ} (a : Answer) → length (entriesIn a) ≤ 4 → at + answerRoom ≤ length o → Room o at (printed a)
+printed-room a h k = let l = printed-length a h in record { room = omega arith }
 
 -- ---- a reply whose vector holds what it tells
 

@@ -13,7 +13,7 @@ ghost use Rattle.paper.specs.Answers.{onPaper, Holds};
 ghost use Rattle.reply.specs.Printed.{answerRoom, printed};
 
 // The room that every answer has, its line feed counted.
-pub const ANSWER_ROOM: usize = 64;
+pub const ANSWER_ROOM: usize = 80;
 
 // The bytes of the reply stand in `out` from `at` on; says the place after them.
 pub fn say(reply: Reply, out: &mut [u8], at: usize) -> usize
@@ -25,7 +25,7 @@ pub fn say(reply: Reply, out: &mut [u8], at: usize) -> usize
     let depots = reply.depots;
     match outcome {
         Outcome::Done => answer_number(out, at, 0),
-        Outcome::Value(v) => answer_value(out, at, v, &vector, depots),
+        Outcome::Value(p) => answer_value(out, at, p, &vector, depots),
         Outcome::Unwritten => answer_unwritten(out, at, &vector, depots),
         Outcome::Current(stamp) => answer_stamp(out, at, stamp, true),
         Outcome::Superseded(stamp) => answer_stamp(out, at, stamp, false),

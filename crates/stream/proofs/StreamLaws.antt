@@ -2,17 +2,17 @@
 -- Assumes nothing.
 use Prim.Native.Nat.{ℕ, _+_, _*_, _≤_, _<_}
 use native.Mathlib.Numerals.{add-one}
-use native.Mathlib.Nat.{le-refl}
 use native.Mathlib.Omega.{arith}
 use mathlib.Core.Path.{_≡_, refl, sym, _∙_, ap, ap₂, subst}
 use mathlib.Core.Logic.{⊎-elim}
 use mathlib.Core.List.{List, [], _∷_, _++_, append-nil, append-assoc}
 use lib.ListN.{length, getD, take, drop, set, length-append, length-set, replicate}
-use lib.Seq.{take-suc, take-set-le, getD-set-same, length-take-le, take-all, sets, sets-eq, take-append-le}
+use lib.Seq.{take-suc, take-set-le, getD-set-same, length-take-le, take-all}
 use borrow.Author.Tests.{eq-eqb, ne-eqb, lt-ltb, le-ltb}
 use Rattle.loops.proofs.BoolLaws.{eq-or-ne, pick-true, pick-false}
 use Rattle.line.specs.Printing.{Wrote}
 use Rattle.line.proofs.PrintLaws.{wrote-nothing, wrote-same, wrote-then, wrote-length}
+use Rattle.reply.specs.Printed.{answerRoom}
 use Rattle.events.specs.Answering.{lineFeed, answerTo, bookAfter}
 use Rattle.stream.specs.Stream.{lineAt, bookAt, saysAt, lineThrough, bookThrough, saysThrough, bookLast, saysLast, linePiece, bookPiece, saysPiece, linePieces, bookPieces, zeroBook, lineIn, Holder, Served}
 use Rattle.events.proofs.SayLaws.{answer-length}
@@ -123,11 +123,11 @@ module _ (l p t : List ℕ) (i : ℕ) (h : i < length t) where
       ∙ ap (λ (x : List ℕ). saysThrough l p (take i t) ++ x) (append-nil _)
 
 -- no byte is answered by more than an answer's room
-pub says-at-length : (l p : List ℕ) (b : ℕ) → length (saysAt l p b) ≤ 64
+pub says-at-length : (l p : List ℕ) (b : ℕ) → length (saysAt l p b) ≤ answerRoom
 says-at-length l p b =
     ⊎-elim
-    (λ (e : b ≡ 10). subst (λ (x : List ℕ). length x ≤ 64) (sym (says-ends l p b e)) (answer-length l p))
-    (λ (e : b ≡ 10 → ⊥). subst (λ (x : List ℕ). length x ≤ 64) (sym (says-nothing l p b e)) (omega arith))
+    (λ (e : b ≡ 10). subst (λ (x : List ℕ). length x ≤ answerRoom) (sym (says-ends l p b e)) (answer-length l p))
+    (λ (e : b ≡ 10 → ⊥). subst (λ (x : List ℕ). length x ≤ answerRoom) (sym (says-nothing l p b e)) (omega arith))
     (eq-or-ne b 10)
 
 -- ---- after i bytes of the piece t
@@ -138,13 +138,13 @@ pub record Fed (l₀ p₀ t o₀ l line o : List ℕ) (next i : ℕ) : Type 0 wh
   pub words : l ≡ bookThrough l₀ p₀ (take i t)
   pub so-far : lineIn line ≡ lineThrough p₀ (take i t)
   pub said : Wrote o₀ 0 (saysThrough l₀ p₀ (take i t)) o next
-  pub room : next ≤ 64 * i
+  pub room : next ≤ answerRoom * i
 
 pub fed-start : (l₀ line t o₀ : List ℕ) → Holder line → Fed l₀ (lineIn line) t o₀ l₀ line o₀ 0 0
 unfolding bookThrough lineThrough saysThrough
 fed-start l₀ line t o₀ h = record { inside = omega arith; holder = h; words = refl; so-far = refl; said = wrote-nothing o₀ 0; room = omega arith }
 
-pub fed-room : {l₀ p₀ t o₀ l line o : List ℕ} {next i : ℕ} → Fed l₀ p₀ t o₀ l line o next i → i < length t → 64 * length t ≤ length o₀ → next + 64 ≤ length o
+pub fed-room : {l₀ p₀ t o₀ l line o : List ℕ} {next i : ℕ} → Fed l₀ p₀ t o₀ l line o next i → i < length t → answerRoom * length t ≤ length o₀ → next + answerRoom ≤ length o
 fed-room f h k = let e = wrote-length (f .said) in omega (arith, f .room)
 
 pub fed-step : {l₀ p₀ t o₀ l line o l′ line′ o′ : List ℕ} {next i next′ : ℕ}
@@ -208,19 +208,9 @@ unfolding bookPiece linePiece saysPiece
 piece-some l p [] h = absurd (h refl)
 piece-some l p (b ∷ c) h = (refl, refl, refl)
 
--- what was written at the start of an output is its beginning
-pub wrote-start : {o o′ xs : List ℕ} {next : ℕ} → Wrote o 0 xs o′ next → next ≤ length o′ → take next o′ ≡ xs
-wrote-start {o} {o′} {xs} {next} w h =
-    let same = wrote-length w in
-    let whole : o′ ≡ xs ++ drop (0 + length xs) o = w .stored ∙ sets-eq xs o 0 (omega (arith, w .after)) in
-    let end : next ≡ length xs = omega (arith, w .after) in
-    ap₂ (λ (n : ℕ) (x : List ℕ). take n x) end whole
-    ∙ take-append-le (length xs) xs (drop (0 + length xs) o) (le-refl _)
-    ∙ take-all (length xs) xs (le-refl _)
-
 -- ---- how much is said at most
 
-says-through-length : (l p t : List ℕ) → length (saysThrough l p t) ≤ 64 * length t
+says-through-length : (l p t : List ℕ) → length (saysThrough l p t) ≤ answerRoom * length t
 unfolding saysThrough
 says-through-length l p [] = omega arith
 says-through-length l p (b ∷ t) =
@@ -229,20 +219,20 @@ says-through-length l p (b ∷ t) =
     let both = length-append (saysAt l p b) (saysThrough (bookAt l p b) (lineAt p b) t) in
     omega arith
 
-says-last-length : (l p : List ℕ) → length (saysLast l p) ≤ 64
+says-last-length : (l p : List ℕ) → length (saysLast l p) ≤ answerRoom
 says-last-length l p =
     ⊎-elim
-    (λ (e : length p ≡ 0). subst (λ (x : List ℕ). length x ≤ 64) (sym (last-none l p e .1)) (omega arith))
-    (λ (e : length p ≡ 0 → ⊥). subst (λ (x : List ℕ). length x ≤ 64) (sym (last-some l p e .1)) (answer-length l p))
+    (λ (e : length p ≡ 0). subst (λ (x : List ℕ). length x ≤ answerRoom) (sym (last-none l p e .1)) (omega arith))
+    (λ (e : length p ≡ 0 → ⊥). subst (λ (x : List ℕ). length x ≤ answerRoom) (sym (last-some l p e .1)) (answer-length l p))
     (eq-or-ne (length p) 0)
 
-pub says-piece-length : (l p c : List ℕ) → length (saysPiece l p c) ≤ 64 * (length c + 1)
+pub says-piece-length : (l p c : List ℕ) → length (saysPiece l p c) ≤ answerRoom * (length c + 1)
 unfolding saysPiece
 says-piece-length l p [] = says-last-length l p
 says-piece-length l p (b ∷ c) = let h = says-through-length l p (b ∷ c) in omega arith
 
 -- so the answers to a piece end in an output that has the room for them
-pub piece-room : (l p c : List ℕ) {o o′ : List ℕ} {next : ℕ} → Wrote o 0 (saysPiece l p c) o′ next → 64 * (length c + 1) ≤ length o → next ≤ length o′
+pub piece-room : (l p c : List ℕ) {o o′ : List ℕ} {next : ℕ} → Wrote o 0 (saysPiece l p c) o′ next → answerRoom * (length c + 1) ≤ length o → next ≤ length o′
 piece-room l p c w h =
     let most = says-piece-length l p c in
     let same = wrote-length w in

@@ -12,6 +12,7 @@ use Rattle.book.specs.Layout.{end, countsOf, crewVector, clock, stable, seen, h
 use Rattle.book.specs.Layout.{crewAt, clockAt, stableAt, seenAt, slotAt, heldAt, takenAt, linkOf}
 use Rattle.fit.specs.Fit.{keptFit, Within, fit}
 use Rattle.shelf.proofs.AllLaws.{AllOf}
+use Rattle.shelf.proofs.ShowLaws.{takenSlots, untakenSlots}
 use Rattle.shelf.proofs.ShownLaws.{link-same}
 use Rattle.register.proofs.FitParts.{LinkOk, IsCopy, IsMessage, Whole, whole-open, whole-close}
 
@@ -28,10 +29,27 @@ pub record HeadOk (l : List ℕ) (q : ℕ) : Type 0 where
   pub room : held l q ≤ 16
   pub first : taken l q ≤ held l q
 
--- a link: its head, and the whole of it
+pub record WaitingOk (n : Counts) (l : List ℕ) (s from q : ℕ) : Type 0 where
+  pub room : held l q ≤ 16
+  pub first : taken l q ≤ held l q
+  pub messages : AllOf (IsMessage n s from) (untakenSlots l q)
+
+-- a link: its head and, where that is fit, its taken copies and its untaken messages
 pub record LinkKept (n : Counts) (l m : List ℕ) (s from q : ℕ) : Type 0 where
   pub head : HeadOk l q → HeadOk m q
-  pub whole : LinkOk n l s from q → LinkOk n m s from q
+  pub copies : HeadOk l q → AllOf (IsCopy n s from) (takenSlots l q) → AllOf (IsCopy n s from) (takenSlots m q)
+  pub messages : HeadOk l q → AllOf (IsMessage n s from) (untakenSlots l q) → AllOf (IsMessage n s from) (untakenSlots m q)
+
+-- so these together are kept
+pub waiting-kept : (n : Counts) (l m : List ℕ) (s from q : ℕ) → LinkKept n l m s from q → WaitingOk n l s from q → WaitingOk n m s from q
+waiting-kept n l m s from q K h =
+    let o : HeadOk l q = record { room = h .room; first = h .first } in
+    record { room = K .head o .room; first = K .head o .first; messages = K .messages o (h .messages) }
+
+pub link-kept : (n : Counts) (l m : List ℕ) (s from q : ℕ) → LinkKept n l m s from q → LinkOk n l s from q → LinkOk n m s from q
+link-kept n l m s from q K h =
+    let o : HeadOk l q = record { room = h .room; first = h .first } in
+    record { room = K .head o .room; first = K .head o .first; copies = K .copies o (h .copies); messages = K .messages o (h .messages) }
 
 -- what the counts n name and is fit in l is fit in m; the length, the counts and the homes stay
 pub record Keeps (n : Counts) (l m : List ℕ) : Type 0 where
@@ -89,16 +107,8 @@ link-stays n l m s from q size slotted heads =
     let f : taken m q ≡ taken l q = heads (takenAt q) (omega arith) (omega arith) in
     record {
       head = λ h. let a = h .room in let b = h .first in record { room = omega arith; first = omega arith };
-      whole = λ h.
-          let a = h .room in
-          let b = h .first in
-          let same = link-same l m q size (h .room) (h .first) slotted (λ j x y. heads j x (omega arith)) in
-          record {
-            room = omega arith;
-            first = omega arith;
-            copies = subst (AllOf (IsCopy n s from)) (sym (same .copies)) (h .copies);
-            messages = subst (AllOf (IsMessage n s from)) (sym (same .waiting)) (h .messages);
-          };
+      copies = λ h. subst (AllOf (IsCopy n s from)) (sym (link-same l m q size (h .room) (h .first) slotted (λ j x y. heads j x (omega arith)) .copies));
+      messages = λ h. subst (AllOf (IsMessage n s from)) (sym (link-same l m q size (h .room) (h .first) slotted (λ j x y. heads j x (omega arith)) .waiting));
     }
 
 pub stored-same : (n : Counts) (l m : List ℕ) (d k : ℕ) → stored m d k ≡ stored l d k → keptFit n k (stored l d k) ≡ true → keptFit n k (stored m d k) ≡ true
@@ -116,9 +126,12 @@ keeps-then n l m v K J =
       stables = λ d s a b h. J .stables d s a b (K .stables d s a b h);
       stamps = λ d s x a b k h. J .stamps d s x a b k (K .stamps d s x a b k h);
       links = λ s from to a b c f.
+          let p = K .links s from to a b c f in
+          let q = J .links s from to a b c f in
           record {
-            head = λ h. J .links s from to a b c f .head (K .links s from to a b c f .head h);
-            whole = λ h. J .links s from to a b c f .whole (K .links s from to a b c f .whole h);
+            head = λ h. q .head (p .head h);
+            copies = λ h g. q .copies (p .head h) (p .copies h g);
+            messages = λ h g. q .messages (p .head h) (p .messages h g);
           };
       stores = λ d k a b h. J .stores d k a b (K .stores d k a b h);
     }
@@ -164,7 +177,7 @@ keeps-whole n l m K W =
                   stables = stable .others;
                   seens = λ x k f. K .stamps d s x hd hs k (old .seens x k f);
                 };
-            links = λ s from to a b c f. K .links s from to a b c f .whole (W .parts .links s from to a b c f);
+            links = λ s from to a b c f. link-kept n l m s from (linkOf s from to) (K .links s from to a b c f) (W .parts .links s from to a b c f);
             stores = λ d k a b. K .stores d k a b (W .parts .stores d k a b);
           };
     }

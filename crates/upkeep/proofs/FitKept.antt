@@ -1,6 +1,6 @@
 -- Every call that is done keeps every part of the book, and so leaves a fit book fit: tick, take, refresh, read.
 -- Assumes nothing.
-use Prim.Native.Nat.{ℕ, _+_, _≤_, _<_}
+use Prim.Native.Nat.{ℕ, _+_, _-_, _≤_, _<_}
 use native.Mathlib.Nat.{le-refl, le-trans, min-le-left}
 use native.Mathlib.Omega.{arith}
 use mathlib.Core.Path.{_≡_, refl, sym, _∙_}
@@ -13,20 +13,23 @@ use Rattle.loops.specs.Loops.{every}
 use Rattle.loops.proofs.BoolLaws.{and-left, and-right, or-next}
 use Rattle.loops.proofs.LoopLaws.{times-keeps, every-at}
 use Rattle.book.specs.declared.parts.Counts.{Counts}
-use Rattle.book.specs.Layout.{end, countsOf, home, crewVector, clock, seen, linkOf, stored}
-use Rattle.fit.specs.Fit.{inRange, crewFit, stableFit, seenFit, linkFit, keptFit, storedFit, Within, fit}
-use Rattle.named.specs.Named.{arrivalFit, showFit, tickParts, takeParts, refreshParts, homeParts, readParts, writeParts}
+use Rattle.book.specs.Layout.{end, countsOf, home, crewVector, clock, seen, linkOf, held, taken, stored}
+use Rattle.fit.specs.Fit.{inRange, crewFit, stableFit, seenFit, headFit, linkFit, keptFit, storedFit, Within, fit}
+use Rattle.named.specs.Named.{waitingFit, arrivalFit, showFit, tickParts, takeParts, refreshParts, homeParts, readParts, writeParts}
 use Rattle.named.proofs.NamedLaws.{Based, base-open, tick-named, take-named, refresh-named, read-named, write-named}
 use Rattle.named.proofs.NamedLaws.{tick-based, take-based, refresh-based, read-based, write-based}
 use Rattle.links.specs.Send.{beat, lowest, lowestSeen}
 use Rattle.shelf.proofs.FrameLaws.{pick-cases}
+use Rattle.shelf.proofs.AllLaws.{all-slots}
+use Rattle.shelf.proofs.ShowLaws.{untakenSlots}
+use Rattle.paper.specs.declared.answer.Payload.{Payload}
 use Rattle.register.specs.Table.{shelfOf, readNumber, tickNumber, takeNumber, refreshNumber}
 use Rattle.register.specs.Calls.{settledHome, readRecord, readBook, tickBook, takeBook, refreshBook}
-use Rattle.register.proofs.FitParts.{Whole, link-open}
+use Rattle.register.proofs.FitParts.{IsMessage, Whole, link-open}
 use Rattle.register.proofs.FitMessage.{beat-message, kept-range}
 use Rattle.register.proofs.FitReady.{roomy-free, shelf-in}
 use Rattle.register.proofs.Numbers.{TickDone, TakeDone, RefreshDone, ReadDone, WriteDone, tick-done, take-done, refresh-done, read-done}
-use Rattle.upkeep.proofs.FitFrame.{CrewOk, Keeps, keeps-whole, keeps-fit}
+use Rattle.upkeep.proofs.FitFrame.{CrewOk, WaitingOk, Keeps, keeps-whole, keeps-fit}
 use Rattle.upkeep.proofs.FitSent.{sent-keeps}
 use Rattle.upkeep.proofs.FitTook.{took-keeps}
 use Rattle.upkeep.proofs.FitSettled.{Arrivals, Settles, settles-then, settled-settles}
@@ -50,7 +53,7 @@ refresh-asked l d s t = let b = refresh-based l d s (t .fits) in (base-open l b,
 pub read-asked : (l : List ℕ) (c k : ℕ) → ReadDone l c k → Based l × (readParts (countsOf l) l c k ≡ true)
 read-asked l c k t = let b = read-based l c k (t .fits) in (base-open l b, sym (read-named l c k b (t .crew) (t .bearing)) ∙ t .fits)
 
-pub write-asked : (l : List ℕ) (c k : ℕ) {value : ℕ} → WriteDone l c k value → Based l × (writeParts (countsOf l) l c k ≡ true)
+pub write-asked : (l : List ℕ) (c k : ℕ) {payload : Payload} → WriteDone l c k payload → Based l × (writeParts (countsOf l) l c k ≡ true)
 write-asked l c k t = let b = write-based l c k (t .fits) in (base-open l b, sym (write-named l c k b (t .crew) (t .bearing)) ∙ t .fits)
 
 pub show-arrivals : (n : Counts) (l : List ℕ) (d s : ℕ) → showFit n l d s ≡ true → Arrivals n l d s
@@ -63,6 +66,16 @@ show-arrivals n l d s h from k f =
 pub crew-open : (n : Counts) (l : List ℕ) (c : ℕ) → crewFit n l c ≡ true → CrewOk n l c
 unfolding crewFit inRange
 crew-open n l c h x k = leb-true _ _ (every-at (n .depots) _ h x k)
+
+pub waiting-open : (n : Counts) (l : List ℕ) (s from q : ℕ) → waitingFit n l s from q ≡ true → WaitingOk n l s from q
+unfolding waitingFit headFit untakenSlots
+waiting-open n l s from q h =
+    let a = and-left (headFit l q) _ h in
+    record {
+      room = leb-true _ _ (and-left (leb (held l q) 16) _ a);
+      first = leb-true _ _ (and-right (leb (held l q) 16) _ a);
+      messages = all-slots (IsMessage n s from) l q (taken l q) (held l q - taken l q) (every-at (held l q - taken l q) _ (and-right (headFit l q) _ h));
+    }
 
 -- ---- tick, take, refresh
 
@@ -81,7 +94,7 @@ take-keeps l d s from h =
     let t = take-done l d s from h in
     let A = take-asked l d s from t in
     took-keeps (countsOf l) l (A .0 .within) (A .0 .full) d s from (t .depot) (t .shelf) (t .sender)
-    (link-open (countsOf l) l s from (linkOf s from d) (and-right (leb (seen l d s from) end) _ (A .1))) (t .more)
+    (waiting-open (countsOf l) l s from (linkOf s from d) (and-right (leb (seen l d s from) end) _ (A .1))) (t .more)
 
 lowest-range : (p d x : ℕ) (l : List ℕ) → lowest p d x l ≤ end
 unfolding lowest

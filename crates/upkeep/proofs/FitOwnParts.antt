@@ -1,7 +1,7 @@
 -- What a change keeps, as the tests have it: each part by itself, and the parts that a call names. Of those only the stored versions that raise and
 -- show may replace are named by the book itself, by its taken copies: there no new copy may be taken.
 -- Assumes nothing.
-use Prim.Native.Nat.{ℕ, _+_, _%_, _<_}
+use Prim.Native.Nat.{ℕ, _+_, _-_, _%_, _<_}
 use native.Mathlib.Nat.{zero-add}
 use native.Mathlib.Omega.{arith}
 use mathlib.Core.Path.{_≡_, refl, sym, _∙_, ap, subst}
@@ -18,17 +18,17 @@ use Rattle.order.proofs.VectorLaws.{covered-at, covered-intro}
 use Rattle.book.specs.declared.parts.Counts.{Counts}
 use Rattle.book.specs.Layout.{bookWords, end, countsOf, home, stable, seen, linkOf, held, taken, slot, recordOf}
 use Rattle.fit.specs.Fit.{countsFit, homeFit, inRange, othersInRange, crewFit, clockFit, stableFit, seenFit, headFit, linkFit, storedFit, homesFit, Within}
-use Rattle.named.specs.Named.{headsOutFit, placesFit, arrivalFit, showFit, tickParts, takeParts, refreshParts, homeParts, readParts, writeParts, baseFit}
+use Rattle.named.specs.Named.{headsOutFit, waitingFit, placesFit, arrivalFit, showFit, tickParts, takeParts, refreshParts, homeParts, readParts, writeParts, baseFit}
 use Rattle.versions.proofs.MessageLaws.{link-bearings}
 use Rattle.named.proofs.NamedLaws.{base-open}
 use Rattle.shelf.proofs.AllLaws.{AllOf, all-slots, all-slots-at}
-use Rattle.shelf.proofs.ShowLaws.{takenSlots}
-use Rattle.register.proofs.FitParts.{link-open, link-close}
+use Rattle.shelf.proofs.ShowLaws.{takenSlots, untakenSlots}
+use Rattle.register.proofs.FitParts.{IsMessage, link-open, link-close}
 use Rattle.register.proofs.FitReady.{shelf-in}
-use Rattle.upkeep.specs.Own.{Part, theLength, theCounts, aHome, aCrew, aClock, aStable, aStamp, aHead, aLink, aStored, Named, fitPart}
-use Rattle.upkeep.proofs.FitFrame.{StableOk, HeadOk, Keeps, counts-same}
+use Rattle.upkeep.specs.Own.{Part, theLength, theCounts, aHome, aCrew, aClock, aStable, aStamp, aHead, aWaiting, aLink, aStored, Named, fitPart}
+use Rattle.upkeep.proofs.FitFrame.{StableOk, HeadOk, WaitingOk, waiting-kept, link-kept, Keeps, counts-same}
 use Rattle.upkeep.proofs.FitSettled.{Settles}
-use Rattle.upkeep.proofs.FitKept.{crew-open}
+use Rattle.upkeep.proofs.FitKept.{crew-open, waiting-open}
 
 -- ---- a test that passes on, place by place
 
@@ -64,6 +64,12 @@ pub head-close : (l : List ℕ) (q : ℕ) → HeadOk l q → headFit l q ≡ tru
 unfolding headFit
 head-close l q h = and-intro (le-leb _ _ (h .room)) (le-leb _ _ (h .first))
 
+pub waiting-close : (n : Counts) (l : List ℕ) (s from q : ℕ) → WaitingOk n l s from q → waitingFit n l s from q ≡ true
+unfolding waitingFit untakenSlots
+waiting-close n l s from q h =
+    and-intro (head-close l q (record { room = h .room; first = h .first }))
+    (every-intro (held l q - taken l q) _ (all-slots-at (IsMessage n s from) l q (taken l q) (held l q - taken l q) (h .messages)))
+
 -- ---- each part by itself
 
 module _ (n : Counts) (l m : List ℕ) (W : Within n) (K : Keeps n l m) where
@@ -77,7 +83,10 @@ module _ (n : Counts) (l m : List ℕ) (W : Within n) (K : Keeps n l m) where
   keeps-part (aStable d s) k h = stable-close n m d s (K .stables d s (k .0) (k .1) (stable-open n l d s h))
   keeps-part (aStamp d s from) k h = le-leb _ _ (K .stamps d s from (k .0) (k .1) (k .2) (leb-true _ _ h))
   keeps-part (aHead s from to) k h = head-close m _ (K .links s from to (k .0) (k .1) (k .2) (k .3) .head (head-open l _ h))
-  keeps-part (aLink s from to) k h = link-close n m s from _ (K .links s from to (k .0) (k .1) (k .2) (k .3) .whole (link-open n l s from _ h))
+  keeps-part (aWaiting s from to) k h =
+      waiting-close n m s from _ (waiting-kept n l m s from _ (K .links s from to (k .0) (k .1) (k .2) (k .3)) (waiting-open n l s from _ h))
+  keeps-part (aLink s from to) k h =
+      link-close n m s from _ (link-kept n l m s from _ (K .links s from to (k .0) (k .1) (k .2) (k .3)) (link-open n l s from _ h))
   keeps-part (aStored d k) r h = K .stores d k (r .0) (r .1) h
 
   -- ---- the parts that a call names
@@ -100,7 +109,7 @@ module _ (n : Counts) (l m : List ℕ) (W : Within n) (K : Keeps n l m) where
   unfolding takeParts fitPart
   take-kept d s from hd hs hf apart =
       and-on (leb (seen l d s from) end) _ (keeps-part (aStamp d s from) (hd, hs, hf, λ e. apart (sym e)))
-      (keeps-part (aLink s from d) (hs, hf, hd, λ e. apart (sym e)))
+      (keeps-part (aWaiting s from d) (hs, hf, hd, λ e. apart (sym e)))
 
   pub seens-kept : (d : ℕ) → d < n .depots → every (n .shelves) (seenFit n l d) ≡ true → every (n .shelves) (seenFit n m d) ≡ true
   unfolding seenFit othersInRange

@@ -51,16 +51,10 @@ module _ (n : Counts) (l : List ℕ) (W : Within n) (full : length l ≡ 16384) 
       let c = F .room to k f in
       record {
         head = λ h. let e = h .first in record { room = omega arith; first = omega arith };
-        whole = λ h.
-            let e = h .first in
-            record {
-              room = omega arith;
-              first = omega arith;
-              copies = subst (AllOf (IsCopy n s d)) (sym (sent-copies (n .depots) d s stamp m l ten full F to k f (h .first))) (h .copies);
-              messages =
-                  subst (AllOf (IsMessage n s d)) (sym (sent-waiting (n .depots) d s stamp m l ten full F to k f (h .first)))
-                  (all-append (IsMessage n s d) _ (m ∷ []) (h .messages) (all-one (IsMessage n s d) m ok));
-            };
+        copies = λ h. subst (AllOf (IsCopy n s d)) (sym (sent-copies (n .depots) d s stamp m l ten full F to k f (h .first)));
+        messages = λ h g.
+            subst (AllOf (IsMessage n s d)) (sym (sent-waiting (n .depots) d s stamp m l ten full F to k f (h .first)))
+            (all-append (IsMessage n s d) _ (m ∷ []) g (all-one (IsMessage n s d) m ok));
       }
 
   other :

@@ -50,7 +50,7 @@ settles-then n l m v d s hs hd A S K slotted heads =
     record {
       keeps = keeps-then n l m v (S .keeps) K;
       fewer = λ P from k f h.
-          let o = S .keeps .links s from d hs k hd f .whole (A from k f) in
+          let o = S .keeps .links s from d hs k hd f .head (record { room = A from k f .room; first = A from k f .first }) in
           let same = link-same m v (linkOf s from d) (K .size) (o .room) (o .first) (slotted from k f) (λ j x y. heads from k f j x (omega arith)) in
           subst (AllOf P) (sym (same .copies))
           (S .fewer P from k f h);
@@ -116,16 +116,9 @@ module _ (n : Counts) (l : List ℕ) (W : Within n) (full : length l ≡ 16384) 
       let c = settled-first (n .depots) d s offered l full R from k f in
       record {
         head = λ h. let a = h .room in record { room = omega arith; first = c };
-        whole = λ h.
-            let a = h .room in
-            record {
-              room = omega arith;
-              first = c;
-              copies =
-                  subst (AllOf (IsCopy n s from)) (sym (settled-copies (n .depots) d s offered l full R from k f))
-                  (all-staying (IsCopy n s from) _ _ (h .copies));
-              messages = subst (AllOf (IsMessage n s from)) (sym (settled-waiting (n .depots) d s offered l full R from k f)) (h .messages);
-            };
+        copies = λ h g.
+            subst (AllOf (IsCopy n s from)) (sym (settled-copies (n .depots) d s offered l full R from k f)) (all-staying (IsCopy n s from) _ _ g);
+        messages = λ h. subst (AllOf (IsMessage n s from)) (sym (settled-waiting (n .depots) d s offered l full R from k f));
       }
 
   other :

@@ -1,4 +1,4 @@
--- Taking the first untaken message of a fit link keeps every part of the book.
+-- Taking the first untaken message of a link whose head and untaken messages are fit keeps every part of the book.
 -- Assumes nothing.
 use Prim.Native.Nat.{ℕ, _+_, _-_, _≤_, _<_}
 use native.Mathlib.Omega.{arith}
@@ -19,12 +19,12 @@ use Rattle.shelf.proofs.AllLaws.{AllOf, all-append, all-one, all-first, all-res
 use Rattle.shelf.proofs.ShowLaws.{untakenSlots}
 use Rattle.links.proofs.SendFrame.{length-took, took-off, took-low}
 use Rattle.links.proofs.TookLaws.{took-head, took-first, took-copies, took-waiting, took-seen, took-stored}
-use Rattle.register.proofs.FitParts.{LinkOk, IsCopy, IsMessage}
+use Rattle.register.proofs.FitParts.{IsCopy, IsMessage}
 use Rattle.register.proofs.FitMessage.{CopyOk, copy-close, message-cases, stamp-range}
-use Rattle.upkeep.proofs.FitFrame.{LinkKept, Keeps, crews-same, clock-same, stable-same, link-stays, stored-same}
+use Rattle.upkeep.proofs.FitFrame.{WaitingOk, LinkKept, Keeps, crews-same, clock-same, stable-same, link-stays, stored-same}
 
 module _ (n : Counts) (l : List ℕ) (W : Within n) (full : length l ≡ 16384) (d s from : ℕ) (hd : d < n .depots) (hs : s < n .shelves) (hf : from < n .depots)
-    (old : LinkOk n l s from (linkOf s from d)) (more : taken l (linkOf s from d) < held l (linkOf s from d)) where
+    (old : WaitingOk n l s from (linkOf s from d)) (more : taken l (linkOf s from d) < held l (linkOf s from d)) where
   after : List ℕ
   after = took d s from l
 
@@ -69,29 +69,27 @@ module _ (n : Counts) (l : List ℕ) (W : Within n) (full : length l ≡ 16384) 
       now = unfold after message in took-seen d s from l d4 s4 f4 full (old .room) more
 
   -- the link that it was taken from, by the kind of the message
-  own : (eqb (kindOf message) beatKind ≡ true) ⊎ (eqb (kindOf message) beatKind ≡ false) → LinkOk n after s from (linkOf s from d)
+  own : (eqb (kindOf message) beatKind ≡ true) ⊎ (eqb (kindOf message) beatKind ≡ false) → LinkKept n l after s from (linkOf s from d)
   unfolding after message
   own (inl e) =
       let a : held after (linkOf s from d) ≡ held l (linkOf s from d) - 1 = took-head d s from l d4 s4 f4 full (old .room) more ∙ pick-true _ _ e in
       let b : taken after (linkOf s from d) ≡ taken l (linkOf s from d) = took-first d s from l d4 s4 f4 full (old .room) more ∙ pick-true _ _ e in
       let r = old .room in
       record {
-        room = omega arith;
-        first = omega arith;
-        copies = subst (AllOf (IsCopy n s from)) (sym (took-copies d s from l d4 s4 f4 full (old .room) more ∙ pick-true _ _ e)) (old .copies);
-        messages = all-rest (IsMessage n s from) message _ waited;
+        head = λ h. record { room = omega arith; first = omega arith };
+        copies = λ h. subst (AllOf (IsCopy n s from)) (sym (took-copies d s from l d4 s4 f4 full (old .room) more ∙ pick-true _ _ e));
+        messages = λ h g. all-rest (IsMessage n s from) message _ waited;
       }
   own (inr e) =
       let a : held after (linkOf s from d) ≡ held l (linkOf s from d) = took-head d s from l d4 s4 f4 full (old .room) more ∙ pick-false _ _ e in
       let b : taken after (linkOf s from d) ≡ taken l (linkOf s from d) + 1 = took-first d s from l d4 s4 f4 full (old .room) more ∙ pick-false _ _ e in
       let r = old .room in
       record {
-        room = omega arith;
-        first = omega arith;
-        copies =
+        head = λ h. record { room = omega arith; first = omega arith };
+        copies = λ h g.
             subst (AllOf (IsCopy n s from)) (sym (took-copies d s from l d4 s4 f4 full (old .room) more ∙ pick-false _ _ e))
-            (all-append (IsCopy n s from) _ (message ∷ []) (old .copies) (all-one (IsCopy n s from) message copied));
-        messages = all-rest (IsMessage n s from) message _ waited;
+            (all-append (IsCopy n s from) _ (message ∷ []) g (all-one (IsCopy n s from) message copied));
+        messages = λ h g. all-rest (IsMessage n s from) message _ waited;
       }
     where
       copied : IsCopy n s from message
@@ -113,9 +111,7 @@ module _ (n : Counts) (l : List ℕ) (W : Within n) (full : length l ≡ 16384) 
       let z : to ≡ d = omega arith in
       subst (λ (v : ℕ). LinkKept n l after v o (linkOf v o to)) (sym x)
       (subst (λ (v : ℕ). LinkKept n l after s v (linkOf s v to)) (sym y)
-      (subst (λ (v : ℕ). LinkKept n l after s from (linkOf s from v)) (sym z)
-      (let now = own (decided (eqb (kindOf message) beatKind)) in
-      record { head = λ h. record { room = now .room; first = now .first }; whole = λ h. now }))))
+      (subst (λ (v : ℕ). LinkKept n l after s from (linkOf s from v)) (sym z) (own (decided (eqb (kindOf message) beatKind))))))
       (λ (p : linkOf r o to ≡ linkOf s from d → ⊥).
       link-stays n l after r o (linkOf r o to) (length-took d s from l) (λ j x y. stays j (omega arith) (omega arith) (omega arith))
       (λ j x y. stays j (omega arith) (omega arith) (omega arith)))

@@ -7,7 +7,7 @@ use mathlib.Core.Bool.{not}
 use lib.Dec.{eqb}
 use lib.ListN.{length, getD, set, replicate, length-set, length-replicate}
 use lib.Seq.{getD-set-other}
-use Rattle.paper.specs.Calls.{read, write, tick, take, refresh}
+use Rattle.paper.specs.Calls.{read, write, tick, take, refresh, move}
 use Rattle.book.specs.declared.parts.Counts.{Counts}
 use Rattle.book.specs.Words.{put}
 use Rattle.book.specs.Layout.{bookWords, homeAt}
@@ -24,6 +24,7 @@ use Rattle.upkeep.proofs.LocalTake.{take-alike, take-stays, take-size}
 use Rattle.upkeep.proofs.LocalRefresh.{refresh-alike, refresh-stays, refresh-size}
 use Rattle.upkeep.proofs.LocalRead.{read-alike, read-stays, read-size}
 use Rattle.upkeep.proofs.LocalWrite.{write-alike, write-stays, write-size}
+use Rattle.upkeep.proofs.LocalMove.{move-alike, move-stays, move-size}
 
 -- ---- a setup
 
@@ -51,26 +52,29 @@ setup-size l n homes z = length-set-up n homes ∙ sym (setup-done l n homes z .
 alike : (S : ℕ → Type 0) (l m : List ℕ) (r : Request) → ((j : ℕ) → Named l r j → S j) → Agree S l m → Alike S l m r
 alike S l m (setup n homes) H A = setup-alike S l m n homes A
 alike S l m (call (read c k)) H A = read-alike S l m c k H A
-alike S l m (call (write c k value)) H A = write-alike S l m c k value H A
+alike S l m (call (write c k payload)) H A = write-alike S l m c k payload H A
 alike S l m (call (tick d s)) H A = tick-alike S l m d s H A
 alike S l m (call (take d s from)) H A = take-alike S l m d s from H A
 alike S l m (call (refresh d s)) H A = refresh-alike S l m d s H A
+alike S l m (call (move c d)) H A = move-alike S l m c d H A
 
 done-stays : (l : List ℕ) (r : Request) (j : ℕ) → numberAt l r ≡ 0 → (Changed l r j → ⊥) → getD (changedBy l r) j 0 ≡ getD l j 0
 done-stays l (setup n homes) j z out = absurd (out all-of-it)
 done-stays l (call (read c k)) j z out = read-stays l c k j z out
-done-stays l (call (write c k value)) j z out = write-stays l c k value j z out
+done-stays l (call (write c k payload)) j z out = write-stays l c k payload j z out
 done-stays l (call (tick d s)) j z out = tick-stays l d s j z out
 done-stays l (call (take d s from)) j z out = take-stays l d s from j z out
 done-stays l (call (refresh d s)) j z out = refresh-stays l d s j z out
+done-stays l (call (move c d)) j z out = move-stays l c d j z out
 
 done-size : (l : List ℕ) (r : Request) → numberAt l r ≡ 0 → length (changedBy l r) ≡ length l
 done-size l (setup n homes) z = setup-size l n homes z
 done-size l (call (read c k)) z = read-size l c k
-done-size l (call (write c k value)) z = write-size l c k value
+done-size l (call (write c k payload)) z = write-size l c k payload
 done-size l (call (tick d s)) z = tick-size l d s
 done-size l (call (take d s from)) z = take-size l d s from
 done-size l (call (refresh d s)) z = refresh-size l d s
+done-size l (call (move c d)) z = move-size l c d
 
 pub the-calls-are-local : Local
 the-calls-are-local =

@@ -65,7 +65,8 @@ module _ (S : ℕ → Type 0) where
 
   pub took-agrees :
       (d s from : ℕ) (v w : List ℕ) → held v (linkOf s from d) ≡ held w (linkOf s from d) → taken v (linkOf s from d) ≡ taken w (linkOf s from d) →
-      taken v (linkOf s from d) < held v (linkOf s from d) → ((i : ℕ) → In (slotAt (linkOf s from d) 0) (10 * held v (linkOf s from d)) i → S i) →
+      taken v (linkOf s from d) < held v (linkOf s from d) →
+      ((i : ℕ) → In (slotAt (linkOf s from d) (taken v (linkOf s from d))) (10 * (held v (linkOf s from d) - taken v (linkOf s from d))) i → S i) →
       Agree S v w →
       Agree S (took d s from v) (took d s from w)
   unfolding took

@@ -1,6 +1,6 @@
 -- Each part that a call names is fit in both of two books or in neither, where they agree on its words.
 -- Assumes nothing.
-use Prim.Native.Nat.{ℕ, _+_, _-_, _≤_, _<_}
+use Prim.Native.Nat.{ℕ, _+_, _*_, _-_, _≤_, _<_}
 use native.Mathlib.Nat.{le-refl}
 use native.Mathlib.Omega.{arith}
 use mathlib.Core.Path.{_≡_, refl, _∙_, ap, ap₂}
@@ -9,19 +9,20 @@ use mathlib.Core.Bool.{Bool, true, _&&_}
 use lib.Dec.{leb, ltb, eqb}
 use lib.ListN.{length, getD}
 use borrow.Author.Tests.{leb-true, eqb-false}
+use Rattle.loops.specs.Loops.{every}
 use Rattle.order.specs.Vector.{Vec, covered}
 use Rattle.order.specs.Record.{bearingOf}
 use Rattle.loops.proofs.BoolLaws.{and-left, and-right}
 use Rattle.order.proofs.VectorLaws.{covered-same}
 use Rattle.book.specs.declared.parts.Counts.{Counts}
-use Rattle.book.specs.Layout.{bookWords, end, homeAt, crewAt, clockAt, stableAt, seenAt, linkOf, heldAt, takenAt, storedAt}
+use Rattle.book.specs.Layout.{bookWords, end, homeAt, crewAt, clockAt, stableAt, seenAt, linkOf, heldAt, takenAt, slotAt, storedAt}
 use Rattle.book.specs.Layout.{countsOf, home, clock, held, taken, slot, stored, recordOf}
 use Rattle.fit.specs.Fit.{countsFit, homeFit, homesFit, inRange, othersInRange, crewFit, clockFit, stableFit, seenFit, copyFit, messageFit}
 use Rattle.fit.specs.Fit.{headFit, messagesFit, linkFit, keptFit, storedFit}
-use Rattle.named.specs.Named.{headsOutFit, placesFit, arrivalFit, showFit, tickParts, takeParts, refreshParts, homeParts, baseFit}
+use Rattle.named.specs.Named.{headsOutFit, waitingFit, placesFit, arrivalFit, showFit, tickParts, takeParts, refreshParts, homeParts, baseFit}
 use Rattle.links.specs.Send.{roomy}
-use Rattle.upkeep.specs.Local.{Agree, In, BaseWord, a-count, a-home, LinkWord, of-head, of-messages, ArrivalWord, of-link, of-place}
-use Rattle.upkeep.specs.Local.{ShowWord, of-stable, of-arrival, TickWord, of-clock, of-head-out, TakeWord, of-seen, of-sender}
+use Rattle.upkeep.specs.Local.{Agree, In, BaseWord, a-count, a-home, LinkWord, of-head, of-messages, WaitingWord, of-its-head, of-untaken}
+use Rattle.upkeep.specs.Local.{ArrivalWord, of-link, of-place, ShowWord, of-stable, of-arrival, TickWord, of-clock, of-head-out, TakeWord, of-seen, of-sender}
 use Rattle.upkeep.specs.Local.{RefreshWord, of-seens, of-shelf, HomeWord, of-crew, of-stored, of-home}
 use Rattle.upkeep.proofs.LocalBasics.{and-alike, or-alike, every-alike, part-agrees}
 
@@ -63,16 +64,36 @@ module _ (S : ℕ → Type 0) (l m : List ℕ) (A : Agree S l m) where
 
   -- ---- a link, and what arrives by it
 
-  module _ (q : ℕ) (L : (j : ℕ) → LinkWord l q j → S j) where
+  module _ (q : ℕ) (H : (j : ℕ) → In (heldAt q) 2 j → S j) where
     pub held-agrees : held l q ≡ held m q
-    held-agrees = A .words (heldAt q) (L (heldAt q) (of-head (le-refl _, omega arith)))
+    held-agrees = A .words (heldAt q) (H (heldAt q) (le-refl _, omega arith))
 
     pub taken-agrees : taken l q ≡ taken m q
-    taken-agrees = A .words (takenAt q) (L (takenAt q) (of-head (omega arith, omega arith)))
+    taken-agrees = A .words (takenAt q) (H (takenAt q) (omega arith, omega arith))
 
     head-agrees : headFit l q ≡ headFit m q
     unfolding headFit
     head-agrees = ap₂ (λ (h t : ℕ). leb h 16 && leb t h) held-agrees taken-agrees
+
+    -- the untaken messages
+    untaken-agree :
+        (n : Counts) (s from : ℕ) → ((j : ℕ) → In (slotAt q (taken l q)) (10 * (held l q - taken l q)) j → S j) →
+        every (held l q - taken l q) (λ i. messageFit n s from (slot l q (taken l q + i))) ≡
+        every (held m q - taken m q) (λ i. messageFit n s from (slot m q (taken m q + i)))
+    untaken-agree n s from M =
+        every-alike _ _ (ap₂ (λ (h t : ℕ). h - t) held-agrees taken-agrees) λ i k.
+        ap (messageFit n s from)
+        (part-agrees S l m 10 refl (λ j x. let a = x .0 in let b = x .1 in M j (omega arith, omega arith)) A
+        ∙ ap (λ (t : ℕ). slot m q (t + i)) taken-agrees)
+
+    pub waiting-agrees :
+        (n : Counts) (s from : ℕ) → ((j : ℕ) → WaitingWord l q j → S j) → waitingFit n l s from q ≡ waitingFit n m s from q
+    unfolding waitingFit
+    waiting-agrees n s from L = and-alike head-agrees λ f. untaken-agree n s from (λ j x. L j (of-untaken f x))
+
+  module _ (q : ℕ) (L : (j : ℕ) → LinkWord l q j → S j) where
+    heads : (j : ℕ) → In (heldAt q) 2 j → S j
+    heads j x = L j (of-head x)
 
     pub slot-agrees : headFit l q ≡ true → (i : ℕ) → i < held l q → slot l q i ≡ slot m q i
     slot-agrees f i k = part-agrees S l m 10 refl (λ j x. let a = x .0 in let b = x .1 in L j (of-messages f (omega arith, omega arith))) A
@@ -80,11 +101,10 @@ module _ (S : ℕ → Type 0) (l m : List ℕ) (A : Agree S l m) where
     pub link-agrees : (n : Counts) (s from : ℕ) → linkFit n l s from q ≡ linkFit n m s from q
     unfolding linkFit messagesFit
     link-agrees n s from =
-        and-alike head-agrees λ f.
+        and-alike (head-agrees q heads) λ f.
         let z = head-open l q f .1 in
-        and-alike (every-alike _ _ taken-agrees λ i k. ap (copyFit n s from) (slot-agrees f i (omega arith))) λ e.
-        every-alike _ _ (ap₂ (λ (h t : ℕ). h - t) held-agrees taken-agrees) λ i k.
-        ap (messageFit n s from) (slot-agrees f (taken l q + i) (omega arith) ∙ ap (λ (t : ℕ). slot m q (t + i)) taken-agrees)
+        and-alike (every-alike _ _ (taken-agrees q heads) λ i k. ap (copyFit n s from) (slot-agrees f i (omega arith))) λ e.
+        untaken-agree q heads n s from (λ j x. let a = x .0 in let b = x .1 in L j (of-messages f (omega arith, omega arith)))
 
   pub stored-agrees : (d k : ℕ) → ((j : ℕ) → In (storedAt d k) 9 j → S j) → stored l d k ≡ stored m d k
   stored-agrees d k h = part-agrees S l m 9 refl h A
@@ -95,7 +115,7 @@ module _ (S : ℕ → Type 0) (l m : List ℕ) (A : Agree S l m) where
       let q = linkOf s from d in
       let L : (j : ℕ) → LinkWord l (linkOf s from d) j → S j = λ j x. W j (of-link x) in
       and-alike (link-agrees q L n s from) λ f.
-      every-alike _ _ (taken-agrees q L) λ i k.
+      every-alike _ _ (taken-agrees q (λ j x. L j (of-head x))) λ i k.
       let h = link-headed n l s from q f in
       let z = head-open l q h .1 in
       ap (keptFit n (bearingOf (recordOf (slot l q i)))) (stored-agrees d (bearingOf (recordOf (slot l q i))) (λ j x. W j (of-place f i k x)))
@@ -140,7 +160,7 @@ module _ (S : ℕ → Type 0) (l m : List ℕ) (A : Agree S l m) where
   unfolding takeParts
   take-parts-agree n d s from W =
       ap₂ (λ (x : ℕ) (b : Bool). leb x end && b) (A .words (seenAt d s + from) (W _ (of-seen refl)))
-      (link-agrees (linkOf s from d) (λ j x. W j (of-sender x)) n s from)
+      (waiting-agrees (linkOf s from d) (λ j x. W j (of-sender (of-its-head x))) n s from (λ j x. W j (of-sender x)))
 
   pub refresh-parts-agree : (n : Counts) (d s : ℕ) → d < n .depots → ((j : ℕ) → RefreshWord n l d s j → S j) → refreshParts n l d s ≡ refreshParts n m d s
   unfolding refreshParts seenFit othersInRange

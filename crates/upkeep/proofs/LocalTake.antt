@@ -9,11 +9,11 @@ use mathlib.Core.Bool.{Bool, true, false, not, _||_}
 use lib.Dec.{leb, eqb}
 use lib.ListN.{length, getD}
 use borrow.Author.Tests.{leb-false, eqb-false, not-false, ne-eqb}
-use Rattle.loops.proofs.BoolLaws.{or-next, and-right}
+use Rattle.loops.proofs.BoolLaws.{or-next, and-left, and-right}
 use Rattle.book.specs.declared.parts.Counts.{Counts}
-use Rattle.book.specs.Layout.{end, countsOf, linkOf, seen}
+use Rattle.book.specs.Layout.{end, countsOf, linkOf, heldAt, seen}
 use Rattle.fit.specs.Fit.{headFit}
-use Rattle.named.specs.Named.{baseFit, takeParts, takeFit}
+use Rattle.named.specs.Named.{waitingFit, baseFit, takeParts, takeFit}
 use Rattle.named.proofs.NamedLaws.{take-based, take-named}
 use Rattle.links.proofs.SendFrame.{length-took, took-off}
 use Rattle.paper.specs.Calls.{take}
@@ -21,10 +21,10 @@ use Rattle.register.specs.Table.{takeNumber}
 use Rattle.register.specs.Calls.{takeBook}
 use Rattle.register.proofs.Numbers.{TakeDone, take-done, or-none}
 use Rattle.upkeep.specs.Requests.{call, numberAt, doneAnswer, changedBy}
-use Rattle.upkeep.specs.Local.{Agree, BaseWord, LinkWord, of-head, of-messages, TakeWord, of-seen, of-sender, Named, based, by-take}
+use Rattle.upkeep.specs.Local.{Agree, In, BaseWord, of-its-head, of-untaken, TakeWord, of-seen, of-sender, Named, based, by-take}
 use Rattle.upkeep.specs.Local.{TookWord, the-seen, the-head, the-slots, Changed, taking, Alike}
 use Rattle.upkeep.proofs.LocalBasics.{or-alike, and-alike, first-alike, agree-fewer}
-use Rattle.upkeep.proofs.LocalParts.{link-headed, counts-agree, base-agrees, held-agrees, taken-agrees, take-parts-agree}
+use Rattle.upkeep.proofs.LocalParts.{counts-agree, base-agrees, held-agrees, taken-agrees, take-parts-agree}
 use Rattle.upkeep.proofs.LocalMoves.{took-agrees}
 use Rattle.upkeep.proofs.LocalAlike.{alike-by}
 
@@ -34,13 +34,13 @@ takes l d s from j (taking w) = w
 -- what taking writes is named
 took-named : (l : List ℕ) (d s from : ℕ) → headFit l (linkOf s from d) ≡ true → (j : ℕ) → TookWord l d s from j → TakeWord l d s from j
 took-named l d s from f j (the-seen e) = of-seen e
-took-named l d s from f j (the-head i) = of-sender (of-head i)
-took-named l d s from f j (the-slots i) = let a = i .0 in let b = i .1 in of-sender (of-messages f (omega arith, omega arith))
+took-named l d s from f j (the-head i) = of-sender (of-its-head i)
+took-named l d s from f j (the-slots i) = of-sender (of-untaken f i)
 
 take-headed : (l : List ℕ) (d s from : ℕ) → TakeDone l d s from → headFit l (linkOf s from d) ≡ true
-unfolding takeParts
+unfolding takeParts waitingFit
 take-headed l d s from t =
-    link-headed (countsOf l) l s from (linkOf s from d)
+    and-left (headFit l (linkOf s from d)) _
     (and-right (leb (seen l d s from) end) _
     (sym (take-named l d s from (take-based l d s from (t .fits)) (t .depot) (t .sender) (t .shelf) ∙ or-next _ (ne-eqb d from (t .apart))) ∙ t .fits))
 
@@ -63,8 +63,8 @@ module _ (S : ℕ → Type 0) (l m : List ℕ) (d s from : ℕ) (H : (j : ℕ) �
     W : (j : ℕ) → TakeWord l d s from j → S j
     W j x = H j (by-take f (leb-false _ _ a) (leb-false _ _ b) (leb-false _ _ c) (eqb-false _ _ e) x)
 
-    L : (j : ℕ) → LinkWord l (linkOf s from d) j → S j
-    L j x = W j (of-sender x)
+    heads : (j : ℕ) → In (heldAt (linkOf s from d)) 2 j → S j
+    heads j x = W j (of-sender (of-its-head x))
 
   fits : takeFit l d s from ≡ takeFit m d s from
   unfolding takeFit
@@ -83,7 +83,7 @@ module _ (S : ℕ → Type 0) (l m : List ℕ) (d s from : ℕ) (H : (j : ℕ) �
       first-alike 3 _ _ shelves λ c.
       first-alike 6 _ _ refl λ e.
       let g = or-none (leb (countsOf l .depots) d) _ p in
-      let K = L (take-based l d s from (not-false _ z)) (g .0) (g .1) c e in
+      let K = heads (take-based l d s from (not-false _ z)) (g .0) (g .1) c e in
       first-alike 7 _ _ (ap₂ leb (held-agrees S l m A (linkOf s from d) K) (taken-agrees S l m A (linkOf s from d) K)) λ h. refl
 
   book : TakeDone l d s from → Agree (λ (j : ℕ). S j ⊎ Changed l (call (take d s from)) j) (takeBook l d s from) (takeBook m d s from)
@@ -92,11 +92,11 @@ module _ (S : ℕ → Type 0) (l m : List ℕ) (d s from : ℕ) (H : (j : ℕ) �
       let f = take-based l d s from (t .fits) in
       let h = take-headed l d s from t in
       let w : (j : ℕ) → TakeWord l d s from j → S j = λ j x. H j (by-take f (t .depot) (t .sender) (t .shelf) (t .apart) x) in
-      let K : (j : ℕ) → LinkWord l (linkOf s from d) j → S j = λ j x. w j (of-sender x) in
+      let K : (j : ℕ) → In (heldAt (linkOf s from d)) 2 j → S j = λ j x. w j (of-sender (of-its-head x)) in
       agree-fewer S _ _ _
       (λ j k. ⊎-elim (λ (y : S j). y) (λ (y : Changed l (call (take d s from)) j). w j (took-named l d s from h j (takes l d s from j y))) k)
       (took-agrees S d s from l m (held-agrees S l m A (linkOf s from d) K) (taken-agrees S l m A (linkOf s from d) K) (t .more)
-      (λ j i. K j (of-messages h i)) A)
+      (λ j i. w j (of-sender (of-untaken h i))) A)
 
   pub take-alike : Alike S l m (call (take d s from))
   unfolding numberAt doneAnswer changedBy

@@ -23,6 +23,7 @@ use Rattle.links.specs.Send.{roomy, sent}
 use Rattle.shelf.proofs.FrameLaws.{Off, length-kept-in, kept-in-off}
 use Rattle.links.proofs.SendFrame.{length-sent, sent-off}
 use Rattle.shelf.proofs.ShowFrame.{length-settled}
+use Rattle.paper.specs.declared.answer.Payload.{Payload}
 use Rattle.paper.specs.Calls.{write}
 use Rattle.register.specs.Answers.{cut, written}
 use Rattle.register.specs.Table.{shelfOf, writeNumber}
@@ -42,27 +43,27 @@ use Rattle.upkeep.proofs.LocalHome.{read-shows, same-home, same-crew, r
 use Rattle.upkeep.proofs.LocalTick.{sent-named}
 use Rattle.upkeep.proofs.LocalAlike.{alike-by}
 
-does : (l : List ℕ) (c k value j : ℕ) → Changed l (call (write c k value)) j → WroteWord (countsOf l) l c k (home l c) (shelfOf l k) j
-does l c k value j (writing w) = w
+does : (l : List ℕ) (c k : ℕ) (payload : Payload) (j : ℕ) → Changed l (call (write c k payload)) j → WroteWord (countsOf l) l c k (home l c) (shelfOf l k) j
+does l c k payload j (writing w) = w
 
-done-shows : (l : List ℕ) (c k : ℕ) {value : ℕ} → WriteDone l c k value → showFit (countsOf l) l (home l c) (shelfOf l k) ≡ true
+done-shows : (l : List ℕ) (c k : ℕ) {payload : Payload} → WriteDone l c k payload → showFit (countsOf l) l (home l c) (shelfOf l k) ≡ true
 unfolding writeParts
 done-shows l c k t =
     read-shows l c k
     (and-left (readParts (countsOf l) l c k) _ (sym (write-named l c k (write-based l c k (t .fits)) (t .crew) (t .bearing)) ∙ t .fits))
 
 -- the book before it is sent
-abbrev stocked : List ℕ → ℕ → ℕ → ℕ → List ℕ
-stocked l c k value = keptIn (countsOf l .depots) (home l c) (madeRecord l c k value) (writtenCrew l c k)
+abbrev stocked : List ℕ → ℕ → ℕ → Payload → List ℕ
+stocked l c k payload = keptIn (countsOf l .depots) (home l c) (madeRecord l c k payload) (writtenCrew l c k)
 
-length-stocked : (l : List ℕ) (c k value : ℕ) → length (stocked l c k value) ≡ length l
+length-stocked : (l : List ℕ) (c k : ℕ) (payload : Payload) → length (stocked l c k payload) ≡ length l
 unfolding writtenCrew settledHome
-length-stocked l c k value =
-    length-kept-in _ _ (madeRecord l c k value) (writtenCrew l c k)
+length-stocked l c k payload =
+    length-kept-in _ _ (madeRecord l c k payload) (writtenCrew l c k)
     ∙ length-set (settledHome l c k) _ _
     ∙ length-settled (countsOf l .depots) (home l c) (shelfOf l k) (crewVector l c) l
 
-module _ (S : ℕ → Type 0) (l m : List ℕ) (c k value : ℕ) (H : (j : ℕ) → Named l (call (write c k value)) j → S j) (A : Agree S l m) where
+module _ (S : ℕ → Type 0) (l m : List ℕ) (c k : ℕ) (payload : Payload) (H : (j : ℕ) → Named l (call (write c k payload)) j → S j) (A : Agree S l m) where
   B : (j : ℕ) → BaseWord l j → S j
   B j x = H j (based x)
 
@@ -102,7 +103,7 @@ module _ (S : ℕ → Type 0) (l m : List ℕ) (c k value : ℕ) (H : (j : ℕ) 
       or-alike (ap (λ (n : Counts). leb (n .crews) c) counts) λ a.
       or-alike (ap (λ (n : Counts). leb (n .bearings) k) counts) λ b. parts f (leb-false _ _ a) (leb-false _ _ b)
 
-  number : writeNumber l c k value ≡ writeNumber m c k value
+  number : writeNumber l c k payload ≡ writeNumber m c k payload
   unfolding writeNumber
   number =
       first-alike 1 _ _ (ap not fits) λ z.
@@ -112,10 +113,11 @@ module _ (S : ℕ → Type 0) (l m : List ℕ) (c k value : ℕ) (H : (j : ℕ) 
       let hc = leb-false _ _ a in
       let hk = leb-false _ _ b in
       first-alike 16 _ _ refl λ y.
+      first-alike 14 _ _ refl λ z.
       first-alike 8 _ _ (ap₂ ltb (sameClock f hc hk) (ownEntry f hc hk)) λ e.
       first-alike 10 _ _ (ap (leb end) (sameClock f hc hk)) λ g. first-alike 9 _ _ (ap not (room f hc hk)) λ h. refl
 
-  module _ (t : WriteDone l c k value) where
+  module _ (t : WriteDone l c k payload) where
     F : baseFit l ≡ true
     F = write-based l c k (t .fits)
 
@@ -138,9 +140,9 @@ module _ (S : ℕ → Type 0) (l m : List ℕ) (c k value : ℕ) (H : (j : ℕ) 
         (λ x z. pick-alike (λ (a b : ℕ). a ≡ b) (ap (eqb x) eh) (λ e. stamp) λ e. same-crew l c k F (t .crew) S m A B R x z)
         ∙ ap (λ (n : Counts). cut (n .depots) (madeVector m c k)) counts
 
-    made : madeRecord l c k value ≡ madeRecord m c k value
+    made : madeRecord l c k payload ≡ madeRecord m c k payload
     unfolding madeRecord
-    made = λ i. k ∷ value ∷ 0 ∷ 0 ∷ eh i ∷ entries i
+    made = λ i. k ∷ payload .value ∷ payload .diameter ∷ payload .width ∷ eh i ∷ entries i
 
     crewed : Agree S (writtenCrew l c k) (writtenCrew m c k)
     unfolding writtenCrew
@@ -148,73 +150,73 @@ module _ (S : ℕ → Type 0) (l m : List ℕ) (c k value : ℕ) (H : (j : ℕ) 
         set-agrees S (settledHome l c k) (settledHome m c k) (ap (λ (e : ℕ). crewAt c + e) eh) stamp
         (settled-home-agrees l c k F (t .crew) S m A B R (done-shows l c k t))
 
-    current : isCurrent l c k value ≡ isCurrent m c k value
+    current : isCurrent l c k payload ≡ isCurrent m c k payload
     unfolding isCurrent
     current =
         let e = part-agrees S (writtenCrew l c k) (writtenCrew m c k) 9 (ap (λ (x : ℕ). storedAt x k) eh) (λ j x. R j (of-stored x)) crewed in
         λ i. above (counts i .depots) (rankOf (made i)) (rankOf (e i))
 
-    stock : Agree S (stocked l c k value) (stocked m c k value)
+    stock : Agree S (stocked l c k payload) (stocked m c k payload)
     stock =
-        subst (Agree S (stocked l c k value)) (λ i. keptIn (counts i .depots) (eh i) (made i) (writtenCrew m c k))
-        (kept-in-agrees S (countsOf l .depots) (home l c) (madeRecord l c k value) (writtenCrew l c k) (writtenCrew m c k)
-        (λ j x. R j (of-stored (subst (λ (b : ℕ). In (storedAt (home l c) b) 9 j) (made-bearing l c k value) x))) crewed)
+        subst (Agree S (stocked l c k payload)) (λ i. keptIn (counts i .depots) (eh i) (made i) (writtenCrew m c k))
+        (kept-in-agrees S (countsOf l .depots) (home l c) (madeRecord l c k payload) (writtenCrew l c k) (writtenCrew m c k)
+        (λ j x. R j (of-stored (subst (λ (b : ℕ). In (storedAt (home l c) b) 9 j) (made-bearing l c k payload) x))) crewed)
 
     -- what a write writes is named, but for the free slots
     named :
         (j : ℕ) → WroteWord (countsOf l) l c k (home l c) (shelfOf l k) j →
-        S j ⊎ SlotsOut (countsOf l .depots) (home l c) (shelfOf l k) (stocked l c k value) j
+        S j ⊎ SlotsOut (countsOf l .depots) (home l c) (shelfOf l k) (stocked l c k payload) j
     named j (the-own e) = let a = base-open l F .homes c (t .crew) in inl (R j (of-crew (omega arith, omega arith)))
     named j (the-stored i) = inl (R j (of-stored i))
     named j (the-shelf w) = inl (R j (of-home (settled-named (countsOf l) l (home l c) (shelfOf l k) j w)))
     named j (the-copy w) =
         ⊎-elim (λ (y : S j). inl y)
         (λ (y : SlotsOut (countsOf l .depots) (home l c) (shelfOf l k) l j).
-        let e = sym (out-stays l c k value t (y .0) (y .1) (y .2)) in
+        let e = sym (out-stays l c k payload t (y .0) (y .1) (y .2)) in
         inr (y .0, y .1, y .2, subst (λ (h : ℕ). In (slotAt (linkOf (shelfOf l k) (home l c) (y .0)) h) 10 j) e (y .3)))
         (sent-named S (countsOf l) l (home l c) (shelfOf l k) T j w)
 
-    book : Agree (λ (j : ℕ). S j ⊎ Changed l (call (write c k value)) j) (writeBook l c k value) (writeBook m c k value)
+    book : Agree (λ (j : ℕ). S j ⊎ Changed l (call (write c k payload)) j) (writeBook l c k payload) (writeBook m c k payload)
     unfolding writeBook
     book =
-        let Q : ℕ → Type 0 = λ (j : ℕ). S j ⊎ SlotsOut (countsOf l .depots) (home l c) (shelfOf l k) (stocked l c k value) j in
-        agree-fewer Q _ _ _ (λ j z. ⊎-elim (λ (y : S j). inl y) (λ (y : Changed l (call (write c k value)) j). named j (does l c k value j y)) z)
-        (subst (Agree Q (sent (countsOf l .depots) (home l c) (shelfOf l k) (newStamp l c k) (copyKind ∷ madeRecord l c k value) (stocked l c k value)))
-        (λ i. sent (counts i .depots) (eh i) (k % counts i .shelves) (stamp i) (copyKind ∷ made i) (stocked m c k value))
-        (sent-agrees S (countsOf l .depots) (home l c) (shelfOf l k) (newStamp l c k) (copyKind ∷ madeRecord l c k value) (ap suc (length-made l c k value))
-        (stocked l c k value) (stocked m c k value) (length-stocked l c k value ∙ base-open l F .full) (free l c k value t)
+        let Q : ℕ → Type 0 = λ (j : ℕ). S j ⊎ SlotsOut (countsOf l .depots) (home l c) (shelfOf l k) (stocked l c k payload) j in
+        agree-fewer Q _ _ _ (λ j z. ⊎-elim (λ (y : S j). inl y) (λ (y : Changed l (call (write c k payload)) j). named j (does l c k payload j y)) z)
+        (subst (Agree Q (sent (countsOf l .depots) (home l c) (shelfOf l k) (newStamp l c k) (copyKind ∷ madeRecord l c k payload) (stocked l c k payload)))
+        (λ i. sent (counts i .depots) (eh i) (k % counts i .shelves) (stamp i) (copyKind ∷ made i) (stocked m c k payload))
+        (sent-agrees S (countsOf l .depots) (home l c) (shelfOf l k) (newStamp l c k) (copyKind ∷ madeRecord l c k payload) (ap suc (length-made l c k payload))
+        (stocked l c k payload) (stocked m c k payload) (length-stocked l c k payload ∙ base-open l F .full) (free l c k payload t)
         (count-held S l m A (countsOf l) (home l c) (shelfOf l k) T) stock))
 
-  pub write-alike : Alike S l m (call (write c k value))
+  pub write-alike : Alike S l m (call (write c k payload))
   unfolding numberAt doneAnswer changedBy
   write-alike =
-      alike-by S l m (call (write c k value)) number
-      (λ z. let t = write-done l c k value z in ap₂ written (stamp t) (current t))
-      (λ z. book (write-done l c k value z)) A
+      alike-by S l m (call (write c k payload)) number
+      (λ z. let t = write-done l c k payload z in ap₂ written (stamp t) (current t))
+      (λ z. book (write-done l c k payload z)) A
 
-module _ (l : List ℕ) (c k value : ℕ) where
+module _ (l : List ℕ) (c k : ℕ) (payload : Payload) where
   pub write-stays :
-      (j : ℕ) → numberAt l (call (write c k value)) ≡ 0 → (Changed l (call (write c k value)) j → ⊥) →
-      getD (changedBy l (call (write c k value))) j 0 ≡ getD l j 0
+      (j : ℕ) → numberAt l (call (write c k payload)) ≡ 0 → (Changed l (call (write c k payload)) j → ⊥) →
+      getD (changedBy l (call (write c k payload))) j 0 ≡ getD l j 0
   unfolding numberAt changedBy writeBook writtenCrew
   write-stays j z out =
-      let t = write-done l c k value z in
+      let t = write-done l c k payload z in
       let n = countsOf l .depots in
       let d = home l c in
       let s = shelfOf l k in
-      let r = madeRecord l c k value in
-      sent-off n d s (newStamp l c k) (copyKind ∷ r) (stocked l c k value) (le-of-eq (ap suc (length-made l c k value))) (free l c k value t) j
+      let r = madeRecord l c k payload in
+      sent-off n d s (newStamp l c k) (copyKind ∷ r) (stocked l c k payload) (le-of-eq (ap suc (length-made l c k payload))) (free l c k payload t) j
       (λ e. out (writing (the-copy (the-clock e))))
       (λ to y f. (
-        subst (λ (h : ℕ). Off (slotAt (linkOf s d to) h) 10 j) (sym (out-stays l c k value t to y f))
+        subst (λ (h : ℕ). Off (slotAt (linkOf s d to) h) 10 j) (sym (out-stays l c k payload t to y f))
             (λ a b. out (writing (the-copy (the-slot to y f (a, b))))),
         λ e. out (writing (the-copy (the-count to y f e))),
       ))
-      ∙ kept-in-off n d r (writtenCrew l c k) j (le-of-eq (length-made l c k value))
-      (subst (λ (b : ℕ). Off (storedAt d b) 9 j) (sym (made-bearing l c k value)) (λ a b. out (writing (the-stored (a, b)))))
+      ∙ kept-in-off n d r (writtenCrew l c k) j (le-of-eq (length-made l c k payload))
+      (subst (λ (b : ℕ). Off (storedAt d b) 9 j) (sym (made-bearing l c k payload)) (λ a b. out (writing (the-stored (a, b)))))
       ∙ getD-set-other (settledHome l c k) (crewAt c + d) j (newStamp l c k) 0 (λ e. out (writing (the-own e)))
       ∙ settled-home-stays l c k (write-based l c k (t .fits)) (t .crew) (done-shows l c k t) j λ w. out (writing (the-shelf w))
 
-  pub write-size : length (changedBy l (call (write c k value))) ≡ length l
+  pub write-size : length (changedBy l (call (write c k payload))) ≡ length l
   unfolding changedBy writeBook
-  write-size = length-sent _ (home l c) (shelfOf l k) _ _ (stocked l c k value) ∙ length-stocked l c k value
+  write-size = length-sent _ (home l c) (shelfOf l k) _ _ (stocked l c k payload) ∙ length-stocked l c k payload

@@ -1,6 +1,6 @@
 -- Locality. What a request is answered, and every word that it writes, is settled by the words that it names; and a word that it does not write
 -- stays, whatever stands there. The words named are those of the parts in named/specs/Named.antt: lay `TickWord` beside `tickParts`, `LinkWord`
--- beside `linkFit`, and so on.
+-- beside `linkFit`, `WaitingWord` beside `waitingFit`, and so on.
 -- Assumes nothing.
 use Prim.Native.Nat.{ℕ, _+_, _*_, _-_, _%_, _≤_, _<_}
 use mathlib.Core.Path.{_≡_}
@@ -8,7 +8,8 @@ use mathlib.Core.Bool.{true}
 use mathlib.Core.List.{List}
 use lib.ListN.{length, getD}
 use Rattle.order.specs.Record.{recordWords, bearingOf}
-use Rattle.paper.specs.Calls.{Call, read, write, tick, take, refresh}
+use Rattle.paper.specs.declared.answer.Payload.{Payload}
+use Rattle.paper.specs.Calls.{Call, read, write, tick, take, refresh, move}
 use Rattle.book.specs.declared.parts.Counts.{Counts}
 use Rattle.book.specs.Layout.{slotWords, homeAt, crewAt, clockAt, stableAt, seenAt, linkOf, heldAt, slotAt, storedAt}
 use Rattle.book.specs.Layout.{countsOf, home, held, taken, slot, recordOf}
@@ -37,6 +38,11 @@ pub data LinkWord (l : List ℕ) (q j : ℕ) : Type 0 where
   of-head : In (heldAt q) 2 j → LinkWord l q j
   of-messages : headFit l q ≡ true → In (slotAt q 0) (slotWords * held l q) j → LinkWord l q j
 
+-- the same of its untaken messages alone
+pub data WaitingWord (l : List ℕ) (q j : ℕ) : Type 0 where
+  of-its-head : In (heldAt q) 2 j → WaitingWord l q j
+  of-untaken : headFit l q ≡ true → In (slotAt q (taken l q)) (slotWords * (held l q - taken l q)) j → WaitingWord l q j
+
 -- the link into shelf s of depot d from a depot and, where it is fit, the stored versions at depot d of the bearings of its taken copies
 pub data ArrivalWord (n : Counts) (l : List ℕ) (d s from j : ℕ) : Type 0 where
   of-link : LinkWord l (linkOf s from d) j → ArrivalWord n l d s from j
@@ -55,10 +61,10 @@ pub data TickWord (n : Counts) (d s j : ℕ) : Type 0 where
   of-clock : j ≡ clockAt d s → TickWord n d s j
   of-head-out : (to : ℕ) → to < n .depots → (to ≡ d → ⊥) → In (heldAt (linkOf s d to)) 2 j → TickWord n d s j
 
--- the stamp seen from that depot, and the link from there
+-- the stamp seen from that depot, and of the link from there the head and the untaken messages
 pub data TakeWord (l : List ℕ) (d s from j : ℕ) : Type 0 where
   of-seen : j ≡ seenAt d s + from → TakeWord l d s from j
-  of-sender : LinkWord l (linkOf s from d) j → TakeWord l d s from j
+  of-sender : WaitingWord l (linkOf s from d) j → TakeWord l d s from j
 
 -- the stamps seen of the other depots on all shelves of the depot, and what raise and show touches
 pub data RefreshWord (n : Counts) (l : List ℕ) (d s j : ℕ) : Type 0 where
@@ -80,18 +86,24 @@ pub data WriteWord (n : Counts) (l : List ℕ) (c k j : ℕ) : Type 0 where
   as-read : ReadWord n l c k j → WriteWord n l c k j
   as-tick : TickWord n (home l c) (k % n .shelves) j → WriteWord n l c k j
 
+-- crew c's vector, and the stamps seen of the other depots on all shelves of depot d
+pub data MoveWord (n : Counts) (c d j : ℕ) : Type 0 where
+  of-mover : In (crewAt c) (n .depots) j → MoveWord n c d j
+  of-stamps : (r x : ℕ) → r < n .shelves → x < n .depots → (x ≡ d → ⊥) → j ≡ seenAt d r + x → MoveWord n c d j
+
 -- word j is one that a request names in the book l. A setup names none: it asks for the length only. Every call names the counts and the homes; where
 -- these are fit and its numbers are in range, its parts too
 pub data Named (l : List ℕ) : Request → ℕ → Type 0 where
   based : {c : Call} {j : ℕ} → BaseWord l j → Named l (call c) j
   by-read : {c k j : ℕ} → baseFit l ≡ true → c < countsOf l .crews → k < countsOf l .bearings → ReadWord (countsOf l) l c k j → Named l (call (read c k)) j
-  by-write : {c k value j : ℕ} → baseFit l ≡ true → c < countsOf l .crews → k < countsOf l .bearings → WriteWord (countsOf l) l c k j →
-      Named l (call (write c k value)) j
+  by-write : {c k j : ℕ} {payload : Payload} → baseFit l ≡ true → c < countsOf l .crews → k < countsOf l .bearings → WriteWord (countsOf l) l c k j →
+      Named l (call (write c k payload)) j
   by-tick : {d s j : ℕ} → baseFit l ≡ true → d < countsOf l .depots → s < countsOf l .shelves → TickWord (countsOf l) d s j → Named l (call (tick d s)) j
   by-take : {d s from j : ℕ} → baseFit l ≡ true → d < countsOf l .depots → from < countsOf l .depots → s < countsOf l .shelves → (d ≡ from → ⊥) →
       TakeWord l d s from j → Named l (call (take d s from)) j
   by-refresh : {d s j : ℕ} → baseFit l ≡ true → d < countsOf l .depots → s < countsOf l .shelves → RefreshWord (countsOf l) l d s j →
       Named l (call (refresh d s)) j
+  by-move : {c d j : ℕ} → baseFit l ≡ true → c < countsOf l .crews → d < countsOf l .depots → MoveWord (countsOf l) c d j → Named l (call (move c d)) j
 
 -- ---- the words that each request writes
 
@@ -125,14 +137,15 @@ pub data WroteWord (n : Counts) (l : List ℕ) (c k d s j : ℕ) : Type 0 where
   the-shelf : SettledWord n l d s j → WroteWord n l c k d s j
   the-copy : SentWord n l d s j → WroteWord n l c k d s j
 
--- word j is one that a request to the book l writes where it is done; a setup writes them all
+-- word j is one that a request to the book l writes where it is done; a setup writes them all, a move the crew's home
 pub data Changed (l : List ℕ) : Request → ℕ → Type 0 where
   all-of-it : {n : Counts} {homes : List ℕ} {j : ℕ} → Changed l (setup n homes) j
   reading : {c k j : ℕ} → FoundWord (countsOf l) l c (home l c) (k % countsOf l .shelves) j → Changed l (call (read c k)) j
-  writing : {c k value j : ℕ} → WroteWord (countsOf l) l c k (home l c) (k % countsOf l .shelves) j → Changed l (call (write c k value)) j
+  writing : {c k j : ℕ} {payload : Payload} → WroteWord (countsOf l) l c k (home l c) (k % countsOf l .shelves) j → Changed l (call (write c k payload)) j
   ticking : {d s j : ℕ} → SentWord (countsOf l) l d s j → Changed l (call (tick d s)) j
   taking : {d s from j : ℕ} → TookWord l d s from j → Changed l (call (take d s from)) j
   refreshing : {d s j : ℕ} → SettledWord (countsOf l) l d s j → Changed l (call (refresh d s)) j
+  moving : {c d j : ℕ} → j ≡ homeAt c → Changed l (call (move c d)) j
 
 -- word j is one that the request writes: a refused one writes none
 pub record Written (l : List ℕ) (r : Request) (j : ℕ) : Type 0 where

@@ -1,5 +1,5 @@
--- One look over the entries is enough: the highest entry tells whether all are in range and whether all are 0, and the stamp whether the
--- origin is a depot with an entry above 0.
+-- What a look at the entries tells: the highest whether all are in range and whether all are 0, and the stamp whether the origin is a depot with an
+-- entry above 0.
 -- Assumes nothing.
 use Prim.Native.Nat.{ℕ, zero, suc, _+_, _%_, _≤_, _<_, max}
 use native.Mathlib.Nat.{le-trans, le-refl, le-step, le-max-left, le-max-right, max-le}
@@ -12,7 +12,8 @@ use lib.Dec.{leb, ltb, eqb}
 use borrow.Author.Tests.{leb-true, le-leb, lt-ltb, le-ltb, eqb-true, eq-eqb, ne-eqb}
 use Rattle.loops.specs.Loops.{times, pick}
 use Rattle.order.specs.Vector.{Vec, zeros}
-use Rattle.order.specs.Record.{bearingOf, originOf, vectorOf}
+use Rattle.order.specs.Record.{bearingOf, diameterOf, widthOf, originOf, vectorOf}
+use Rattle.card.specs.Card.{cardFit}
 use Rattle.loops.proofs.BoolLaws.{together, le-or-lt, eq-or-ne, pick-true, pick-false}
 use Rattle.loops.proofs.LoopLaws.{times-none, times-more, every-at, every-intro}
 use Rattle.order.proofs.VectorLaws.{zeros-at, zeros-intro}
@@ -35,18 +36,13 @@ pub highest-more : (x : ℕ) (v : Vec) {m t : ℕ} → m ≡ highest x v → t �
 unfolding highest
 highest-more x v p q = times-more x _ _ p q
 
-pub entry-none : (o : ℕ) (v : Vec) → 0 ≡ entryOf 0 o v
-unfolding entryOf
-entry-none o v = sym (pick-false _ _ (le-ltb o 0 (omega arith)))
+-- the entry of a depot by another name
+pub entry-by : (n : ℕ) (v : Vec) {o p e : ℕ} → e ≡ entryOf n o v → o ≡ p → e ≡ entryOf n p v
+entry-by n v q r = q ∙ ap (λ (x : ℕ). entryOf n x v) r
 
-pub entry-more : (x o : ℕ) (v : Vec) {m t : ℕ} → m ≡ entryOf x o v → t ≡ pick (eqb x o) (v x) m → t ≡ entryOf (x + 1) o v
-unfolding entryOf
-entry-more x o v {m} {t} p q = go (eq-or-ne x o) (le-or-lt x o)
-  where
-    go : (x ≡ o) ⊎ (x ≡ o → ⊥) → (x ≤ o) ⊎ (o < x) → t ≡ pick (ltb o (x + 1)) (v o) 0
-    go (inl e) s = q ∙ pick-true _ _ (eq-eqb x o e) ∙ ap v e ∙ sym (pick-true _ _ (lt-ltb o (x + 1) (omega arith)))
-    go (inr n) (inl s) = q ∙ pick-false _ _ (ne-eqb x o n) ∙ p ∙ pick-false _ _ (le-ltb o x s) ∙ sym (pick-false _ _ (le-ltb o (x + 1) (omega arith)))
-    go (inr n) (inr s) = q ∙ pick-false _ _ (ne-eqb x o n) ∙ p ∙ pick-true _ _ (lt-ltb o x s) ∙ sym (pick-true _ _ (lt-ltb o (x + 1) (omega arith)))
+-- a division by a number that is a numeral
+pub mod-by : (b p : ℕ) {m : ℕ} → p ≡ m → b % m ≡ b % p
+mod-by b p e = ap (λ (x : ℕ). b % x) (sym e)
 
 -- ---- what the highest entry tells
 
@@ -79,30 +75,29 @@ highest-zero n v =
 
 -- ---- and the stamp
 
-stamp-looked : (n o : ℕ) (v : Vec) → ltb o n && ltb 0 (v o) ≡ ltb 0 (entryOf n o v)
+stamp-looked : (n o : ℕ) (v : Vec) (k : Bool) → ltb o n && (ltb 0 (v o) && k) ≡ ltb 0 (entryOf n o v) && k
 unfolding entryOf pick
-stamp-looked n o v = go (ltb o n)
+stamp-looked n o v k = go (ltb o n)
   where
-    go : (b : Bool) → b && ltb 0 (v o) ≡ ltb 0 (pick b (v o) 0)
+    go : (b : Bool) → b && (ltb 0 (v o) && k) ≡ ltb 0 (pick b (v o) 0) && k
     go true = refl
     go false = refl
 
-version-looked : (n : Counts) (r : List ℕ) {h e : ℕ} → h ≡ highest (n .depots) (vectorOf r) → e ≡ entryOf (n .depots) (originOf r) (vectorOf r) → versionFit n r ≡ leb h end && ltb 0 e
-unfolding versionFit
-version-looked n r p q =
-    ap₂ (λ (a b : Bool). a && b)
-    (highest-range (n .depots) (vectorOf r) ∙ ap (λ (m : ℕ). leb m end) (sym p))
-    (stamp-looked (n .depots) (originOf r) (vectorOf r) ∙ ap (ltb 0) (sym q))
+-- the same of a record, by its highest entry h, its stamp e, and whether it holds a card, k
+module _ (n : Counts) (r : List ℕ) {h e : ℕ} {k : Bool} (p : h ≡ highest (n .depots) (vectorOf r)) (q : e ≡ entryOf (n .depots) (originOf r) (vectorOf r))
+    (card : k ≡ cardFit (diameterOf r) (widthOf r)) where
+  version-looked : versionFit n r ≡ leb h end && (ltb 0 e && k)
+  unfolding versionFit
+  version-looked =
+      ap₂ (λ (a b : Bool). a && b)
+      (highest-range (n .depots) (vectorOf r) ∙ ap (λ (m : ℕ). leb m end) (sym p))
+      (stamp-looked (n .depots) (originOf r) (vectorOf r) _ ∙ ap₂ (λ (m : ℕ) (t : Bool). ltb 0 m && t) (sym q) (sym card))
 
-pub carried-looked :
-    (n : Counts) (s from : ℕ) (r : List ℕ) {h o e b : ℕ} → h ≡ highest (n .depots) (vectorOf r) → o ≡ originOf r →
-    e ≡ entryOf (n .depots) (originOf r) (vectorOf r) → b ≡ bearingOf r →
-    carriedFit n s from r ≡ leb h end && ltb 0 e && (eqb o from && (ltb b (n .bearings) && eqb (b % n .shelves) s))
-unfolding carriedFit
-carried-looked n s from r p o q b = rw (version-looked n r p q, o, b)
+  pub carried-looked : (s from : ℕ) {o b : ℕ} → o ≡ originOf r → b ≡ bearingOf r
+      → carriedFit n s from r ≡ leb h end && (ltb 0 e && k) && (eqb o from && (ltb b (n .bearings) && eqb (b % n .shelves) s))
+  unfolding carriedFit
+  carried-looked s from o b = rw (version-looked, o, b)
 
-pub kept-looked :
-    (n : Counts) (k : ℕ) (r : List ℕ) {h e b : ℕ} → h ≡ highest (n .depots) (vectorOf r) → e ≡ entryOf (n .depots) (originOf r) (vectorOf r) → b ≡ bearingOf r →
-    keptFit n k r ≡ eqb h 0 || (leb h end && ltb 0 e && eqb b k)
-unfolding keptFit
-kept-looked n k r p q b = rw (highest-zero (n .depots) (vectorOf r), ← p, version-looked n r p q, b)
+  pub kept-looked : (j : ℕ) {b : ℕ} → b ≡ bearingOf r → keptFit n j r ≡ eqb h 0 || (leb h end && (ltb 0 e && k) && eqb b j)
+  unfolding keptFit
+  kept-looked j b = rw (highest-zero (n .depots) (vectorOf r), ← p, version-looked, b)

@@ -1,6 +1,6 @@
 -- Messages and links. A message by its kind: a heartbeat is judged by its stamp, a copy by its record, and no other kind is fit.
 -- Assumes nothing.
-use Prim.Native.Nat.{ℕ, _+_, _≤_, _<_}
+use Prim.Native.Nat.{ℕ, _+_, _-_, _≤_, _<_}
 use native.Mathlib.Omega.{arith}
 use mathlib.Core.Path.{_≡_, refl, sym, _∙_, ap, ap₂, subst}
 use mathlib.Core.List.{List}
@@ -60,6 +60,11 @@ unfolding messagesFit every
 link-empty n l s from q {h} {t} e k =
     let z : t ≡ 0 = omega arith in
     subst (λ (x : ℕ). messagesFit n l s from q t x ≡ true) (sym e) (subst (λ (x : ℕ). messagesFit n l s from q x 0 ≡ true) (sym z) refl)
+
+-- where all are taken, none waits
+pub none-wait : (p : ℕ → Bool) {h t : ℕ} → t ≡ h → every (h - t) p ≡ true
+unfolding every
+none-wait p {h} {t} e = let z : h - t ≡ 0 = omega arith in subst (λ (x : ℕ). every x p ≡ true) (sym z) refl
 
 -- the bearing of the copy in a slot, where it stands
 pub bearing-there : (l : List ℕ) (q i : ℕ) {at : ℕ} → at ≡ slotAt q i → getD l (at + 1) 0 ≡ bearingOf (recordOf (slot l q i))

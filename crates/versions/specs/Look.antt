@@ -1,4 +1,4 @@
--- What one look over a record's entries finds: the highest entry, and the stamp.
+-- What a look at a record's entries finds: the highest entry, and the stamp.
 -- Assumes nothing.
 use Prim.Native.Nat.{ℕ, max}
 use lib.Dec.{ltb}

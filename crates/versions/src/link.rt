@@ -65,7 +65,7 @@ fn copies_fit(book: &[u32], n: Counts, s: Shelf, from: Depot, q: Link, count: us
 }
 
 // Whether the `count` messages after the first `taken` ones are fit.
-fn waiting_fit(
+pub fn waiting_fit(
     book: &[u32],
     n: Counts,
     s: Shelf,
@@ -116,6 +116,9 @@ pub fn messages_fit(
 {
     if !copies_fit(book, n, s, from, q, taken) {
         return false;
+    }
+    if taken == count {
+        return true;
     }
     waiting_fit(book, n, s, from, q, taken, count - taken)
 }

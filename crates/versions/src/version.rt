@@ -6,16 +6,18 @@ use book::numbers::Depot;
 use book::numbers::Shelf;
 use book::parts::Counts;
 use book::parts::wide;
+use card::card_fits;
 use order::record::BEARING;
+use order::record::DIAMETER;
 use order::record::ORIGIN;
 use order::record::RECORD_WORDS;
 use order::record::VECTOR;
+use order::record::WIDTH;
 ghost use mathlib.Core.Path.{_≡_};
-ghost use Prim.Native.Nat.{_≤_, _<_, max};
-ghost use lib.Dec.{eqb};
+ghost use Prim.Native.Nat.{_%_, _≤_, _<_, max};
 ghost use lib.ListN.{length};
-ghost use Rattle.loops.specs.Loops.{pick};
-ghost use Rattle.order.specs.Record.{mostDepots, recordWords, originOf, vectorOf};
+ghost use Rattle.order.specs.Record.{mostDepots, recordWords, diameterOf, widthOf, originOf, vectorOf};
+ghost use Rattle.card.specs.Card.{cardFit};
 ghost use Rattle.book.specs.Layout.{bookWords, bearingRoom};
 ghost use Rattle.fit.specs.Fit.{carriedFit, keptFit, storedFit};
 ghost use Rattle.versions.specs.Look.{highest, entryOf};
@@ -37,14 +39,32 @@ fn larger(a: u32, b: u32) -> u32
     a
 }
 
-// The entry, where its depot is the one looked for.
-fn entry_if(x: usize, o: usize, entry: u32, other: u32) -> u32
-    ensures { λ r. ⌜ r ≡ pick (eqb x o) entry other ⌝ }
+// The entry of depot o, or 0 where o is none of the n depots.
+fn entry_of(version: &[u32], n: usize, o: usize) -> u32
+    requires { ⌜ (length (now version) ≡ recordWords) × (n ≤ mostDepots) ⌝ }
+    ensures { λ r. ⌜ r ≡ entryOf n o (vectorOf (now (version .entry))) ⌝ }
 {
-    if x == o {
-        return entry;
+    if n <= o {
+        return 0;
     }
-    other
+    version[VECTOR + o]
+}
+
+// The shelf of a bearing. A division by a numeral is cheaper than one by a number.
+fn shelf_of(bearing: usize, shelves: usize) -> usize
+    requires { ⌜ 0 < shelves ⌝ }
+    ensures { λ r. ⌜ r ≡ bearing % shelves ⌝ }
+{
+    if shelves == 2 {
+        return bearing % 2;
+    }
+    if shelves == 3 {
+        return bearing % 3;
+    }
+    if shelves == 4 {
+        return bearing % 4;
+    }
+    bearing % shelves
 }
 
 fn look(version: &[u32], n: usize) -> Found
@@ -54,19 +74,25 @@ fn look(version: &[u32], n: usize) -> Found
 {
     let origin = wide(version[ORIGIN]);
     let mut top: u32 = 0;
-    let mut stamp: u32 = 0;
     let mut x = 0;
     while x < n {
-        let entry = version[VECTOR + x];
-        top = larger(top, entry);
-        stamp = entry_if(x, origin, entry, stamp);
+        top = larger(top, version[VECTOR + x]);
         x += 1;
     }
+    let stamp = entry_of(version, n, origin);
     Found {
         highest: top,
         origin: origin,
         stamp: stamp,
     }
+}
+
+// Whether a record holds a card.
+fn has_card(version: &[u32]) -> bool
+    requires { ⌜ length (now version) ≡ recordWords ⌝ }
+    ensures { λ r. ⌜ r ≡ cardFit (diameterOf (now (version .entry))) (widthOf (now (version .entry))) ⌝ }
+{
+    card_fits(version[DIAMETER], version[WIDTH])
 }
 
 // Whether a record may be carried by the link of a shelf out of a depot.
@@ -81,6 +107,9 @@ pub fn carried_fits(version: &[u32], n: Counts, s: Shelf, from: Depot) -> bool
     if found.stamp == 0 {
         return false;
     }
+    if !has_card(version) {
+        return false;
+    }
     if found.origin != from.index() {
         return false;
     }
@@ -88,7 +117,7 @@ pub fn carried_fits(version: &[u32], n: Counts, s: Shelf, from: Depot) -> bool
     if n.bearings <= bearing {
         return false;
     }
-    bearing % n.shelves == s.index()
+    shelf_of(bearing, n.shelves) == s.index()
 }
 
 // Whether a record may be stored for a bearing.
@@ -104,6 +133,9 @@ fn kept_fits(version: &[u32], n: Counts, k: Bearing) -> bool
         return false;
     }
     if found.stamp == 0 {
+        return false;
+    }
+    if !has_card(version) {
         return false;
     }
     wide(version[BEARING]) == k.index()

@@ -13,11 +13,17 @@ use book::numbers::Shelf;
 use book::parts::clock_of;
 use book::parts::counts_of;
 use book::words::write_words;
+use card::Card;
+use card::CardCheck;
+use card::card_of;
+use card::diameter_bits;
+use card::width_bits;
 use links::send::is_roomy;
 use links::send::send;
 use named::write_parts_fit;
 use order::record::RECORD_WORDS;
 use order::record::is_above;
+use paper::answer::Payload;
 use paper::answer::Refusal;
 use paper::answer::WriteAnswer;
 use paper::request::LAST_DAY;
@@ -37,10 +43,11 @@ ghost use lib.ListN.{length, set};
 ghost use Rattle.order.specs.Order.{above};
 ghost use Rattle.order.specs.Record.{mostDepots, recordWords, bearingOf, rankOf};
 ghost use Rattle.book.specs.Layout.{bookWords, bearingRoom, mostCrews, copyKind, countsOf, stored, crewVector, crewAt};
+ghost use Rattle.card.specs.Card.{wordOf};
 ghost use Rattle.named.specs.Named.{baseFit};
 ghost use Rattle.shelf.specs.Show.{keptIn, settled};
 ghost use Rattle.shelf.specs.Asks.{Ready};
-ghost use Rattle.register.specs.Calls.{withEntry, versionWords, newStamp, isCurrent, writeBook};
+ghost use Rattle.register.specs.Calls.{withEntry, payloadFrom, versionWords, newStamp, isCurrent, writeBook};
 ghost use Rattle.register.specs.Checks.{MayWrite};
 ghost use Rattle.paper.specs.Answers.{paperWrite};
 ghost use Rattle.register.specs.Answers.{cut, written};
@@ -62,12 +69,14 @@ fn message_of(v: Version) -> [u32; 10]
     ensures { λ r. ⌜ r ≡ copyKind ∷ versionWords v ⌝ }
 {
     let vector = v.vector;
+    let diameter = diameter_bits(v.card);
+    let width = width_bits(v.card);
     [
         COPY,
         v.bearing,
         v.value,
-        0,
-        0,
+        diameter,
+        width,
         v.origin,
         vector[0],
         vector[1],
@@ -108,14 +117,16 @@ fn made_copy(
     d: Depot,
     stamp: u32,
     value: u32,
+    card: Card,
 ) -> [u32; 10]
     requires { ⌜ (length (now book) ≡ bookWords) × (n ≤ mostDepots) × (c .0 < mostCrews) × (d .0 < mostDepots) × (k .0 < bearingRoom) ⌝ }
-    ensures { λ r. ⌜ r ≡ copyKind ∷ k .0 ∷ value ∷ 0 ∷ 0 ∷ d .0 ∷ cut n (withEntry (d .0) stamp (crewVector (now (book .entry)) (c .0))) ⌝ }
+    ensures { λ r. ⌜ r ≡ copyKind ∷ k .0 ∷ value ∷ wordOf (card .diameter) ∷ wordOf (card .width) ∷ d .0 ∷ cut n (withEntry (d .0) stamp (crewVector (now (book .entry)) (c .0))) ⌝ }
 {
     let vector = made_vector(book, n, c, d, stamp);
     message_of(Version {
         bearing: word(k.index()),
         value: value,
+        card: card,
         origin: word(d.index()),
         vector: vector,
     })
@@ -149,21 +160,22 @@ fn write_version(
     s: Shelf,
     stamp: u32,
     value: u32,
+    card: Card,
 ) -> WriteAnswer
-    requires { ⌜ MayWrite (now book) (c .0) (k .0) value n (d .0) (s .0) stamp ⌝ }
-    ensures { λ r. ⌜ (paperWrite r ≡ written (newStamp (now (book .entry)) (c .0) (k .0)) (isCurrent (now (book .entry)) (c .0) (k .0) value))
-        × (now (book .exit) ≡ writeBook (now (book .entry)) (c .0) (k .0) value) ⌝ }
+    requires { ⌜ MayWrite (now book) (c .0) (k .0) (payloadFrom value card) n (d .0) (s .0) stamp ⌝ }
+    ensures { λ r. ⌜ (paperWrite r ≡ written (newStamp (now (book .entry)) (c .0) (k .0)) (isCurrent (now (book .entry)) (c .0) (k .0) (payloadFrom value card)))
+        × (now (book .exit) ≡ writeBook (now (book .entry)) (c .0) (k .0) (payloadFrom value card)) ⌝ }
 {
-    let message = made_copy(book, n, c, k, d, stamp, value);
+    let message = made_copy(book, n, c, k, d, stamp, value, card);
     stamp_crew(book, n, c, d, s, stamp);
     let current = keep_record(book, n, d, k, &message[SLOT_RECORD..SLOT_WORDS]);
     send(book, n, d, s, stamp, &message);
     answered(current, stamp)
 }
 
-fn write_at(book: &mut [u32], c: Crew, k: Bearing, value: u32) -> WriteAnswer
+fn write_at(book: &mut [u32], c: Crew, k: Bearing, payload: Payload) -> WriteAnswer
     requires { ⌜ (baseFit (now book) ≡ true) × (c .0 < countsOf (now book) .crews) × (k .0 < countsOf (now book) .bearings) ⌝ }
-    ensures { λ r. ⌜ Write (now (book .entry)) (c .0) (k .0) value r (now (book .exit)) ⌝ }
+    ensures { λ r. ⌜ Write (now (book .entry)) (c .0) (k .0) payload r (now (book .exit)) ⌝ }
 {
     let n = counts_of(book);
     let depots = n.depots;
@@ -172,9 +184,12 @@ fn write_at(book: &mut [u32], c: Crew, k: Bearing, value: u32) -> WriteAnswer
     if !write_parts_fit(book, n, c, k, d, s) {
         return WriteAnswer::Refused(Refusal::BadBook);
     }
-    if LAST_DAY < value {
+    if LAST_DAY < payload.value {
         return WriteAnswer::Refused(Refusal::BadDate);
     }
+    let CardCheck::Good(card) = card_of(payload.diameter, payload.width) else {
+        return WriteAnswer::Refused(Refusal::BadCard);
+    };
     let clock = clock_of(book, d, s);
     if clock < book[crew_at(c) + d.index()] {
         return WriteAnswer::Refused(Refusal::Wait);
@@ -185,15 +200,15 @@ fn write_at(book: &mut [u32], c: Crew, k: Bearing, value: u32) -> WriteAnswer
     if !is_roomy(book, depots, d, s) {
         return WriteAnswer::Refused(Refusal::LinkFull);
     }
-    write_version(book, depots, c, k, d, s, clock + 1, value)
+    write_version(book, depots, c, k, d, s, clock + 1, payload.value, card)
 }
 
-// Refuses, in this order: BAD BOOK, BAD CREW, BAD KEY, BAD DATE, WAIT, CLOCK AT END, LINK FULL. Room is judged before raising.
-pub fn write(book: &mut [u32], crew: u32, bearing: u32, value: u32) -> WriteAnswer
-    ensures { λ r. ⌜ Write (now (book .entry)) crew bearing value r (now (book .exit)) ⌝ }
+// Refuses, in this order: BAD BOOK, BAD CREW, BAD KEY, BAD DATE, BAD CARD, WAIT, CLOCK AT END, LINK FULL. Room is judged before raising.
+pub fn write(book: &mut [u32], crew: u32, bearing: u32, payload: Payload) -> WriteAnswer
+    ensures { λ r. ⌜ Write (now (book .entry)) crew bearing payload r (now (book .exit)) ⌝ }
 {
     match check_asked(book, crew, bearing) {
         AskCheck::Bad(r) => WriteAnswer::Refused(r),
-        AskCheck::Good(c, k) => write_at(book, c, k, value),
+        AskCheck::Good(c, k) => write_at(book, c, k, payload),
     }
 }

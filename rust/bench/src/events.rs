@@ -45,8 +45,8 @@ pub struct Block {
 #[inline(always)]
 pub fn call<R: Register>(register: &R, event: &Event, book: &mut [u32], fresh: &mut [u32]) -> bool {
     match event {
-        Event::Read { crew, bearing } => register.read(book, *crew, *bearing, &mut [0; 6]) == 0,
-        Event::Write { crew, bearing, value } => register.write(book, *crew, *bearing, *value, &mut [0; 2]) == 0,
+        Event::Read { crew, bearing } => register.read(book, *crew, *bearing, &mut [0; 8]) == 0,
+        Event::Write { crew, bearing, value, card } => register.write(book, *crew, *bearing, *value, *card, &mut [0; 2]) == 0,
         Event::Tick { depot, shelf } => register.tick(book, *depot, *shelf) == 0,
         Event::Take { depot, shelf, from } => register.take(book, *depot, *shelf, *from) == 0,
         Event::Refresh { depot, shelf } => register.refresh(book, *depot, *shelf) == 0,
@@ -88,7 +88,7 @@ impl Course {
         };
         let found = (0..16).map(|_| (random.below(n.crews), random.below(n.bearings))).find(ready);
         let (crew, bearing) = found.unwrap_or((0, 0));
-        Event::Write { crew: crew as u32, bearing: bearing as u32, value: values::day(random) }
+        Event::Write { crew: crew as u32, bearing: bearing as u32, value: values::day(random), card: values::card(random) }
     }
 
     /// A tick of the shelf that is behind at some depot: it holds up what the others have sent.

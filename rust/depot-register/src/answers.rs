@@ -3,6 +3,8 @@
 use std::error::Error;
 use std::fmt;
 
+use crate::Card;
+
 /// Why a call was refused. A refused call changed no word of the book.
 #[derive(Clone, Copy, Debug, PartialEq, Eq, Hash)]
 pub enum Refusal {
@@ -28,12 +30,16 @@ pub enum Refusal {
     ClockAtEnd = 10,
     /// A count is out of range, or the homes are not as many as the crews.
     BadCounts = 11,
+    /// A move, and some shelf of the new home has not seen all that the crew has: move again after some rounds.
+    NotHereYet = 12,
+    /// A length of the card is not finite, above 0 and at most 2,000.
+    BadCard = 14,
     /// The value to write is over [`LAST_DAY`](crate::calendar::LAST_DAY), 146,096.
     BadDate = 16,
 }
 
 impl Refusal {
-    const ALL: [Refusal; 12] = [
+    const ALL: [Refusal; 13] = [
         Refusal::BadBook,
         Refusal::BadDepot,
         Refusal::BadShelf,
@@ -45,6 +51,8 @@ impl Refusal {
         Refusal::LinkFull,
         Refusal::ClockAtEnd,
         Refusal::BadCounts,
+        Refusal::NotHereYet,
+        Refusal::BadCard,
         Refusal::BadDate,
     ];
 
@@ -77,6 +85,8 @@ impl fmt::Display for Refusal {
             Refusal::LinkFull => "a link out has no room",
             Refusal::ClockAtEnd => "the clock is at its end",
             Refusal::BadCounts => "a count is out of range, or the homes are not as many as the crews",
+            Refusal::NotHereYet => "the new home has not seen all that the crew has",
+            Refusal::BadCard => "a length of the card is out of range, or no number",
             Refusal::BadDate => "the day is beyond the calendar",
         })
     }
@@ -85,12 +95,12 @@ impl fmt::Display for Refusal {
 impl Error for Refusal {}
 
 /// What a read found at the crew's home.
-#[derive(Clone, Copy, Debug, PartialEq, Eq, Hash)]
+#[derive(Clone, Copy, Debug, PartialEq)]
 pub enum Reading {
     /// Nobody wrote the bearing, as far as this depot shows.
     Unwritten,
-    /// The value, and the vector of its version: one entry a depot, 0 past the last.
-    Written { value: u32, vector: [u32; 4] },
+    /// The value, its card, and the vector of its version: one entry a depot, 0 past the last.
+    Written { value: u32, card: Card, vector: [u32; 4] },
 }
 
 impl Reading {
@@ -99,6 +109,14 @@ impl Reading {
         match self {
             Reading::Unwritten => None,
             Reading::Written { value, .. } => Some(value),
+        }
+    }
+
+    /// The card, if there is one.
+    pub fn card(self) -> Option<Card> {
+        match self {
+            Reading::Unwritten => None,
+            Reading::Written { card, .. } => Some(card),
         }
     }
 }
@@ -118,5 +136,21 @@ impl Written {
         match self {
             Written::Current { stamp } | Written::Superseded { stamp } => stamp,
         }
+    }
+}
+
+/// Which depots store a depot's present version of a bearing or a greater one.
+#[derive(Clone, Copy, Debug, PartialEq, Eq, Hash)]
+pub struct Holders {
+    /// Bit d for depot d.
+    pub mask: u32,
+    /// How many bits are set.
+    pub count: u32,
+}
+
+impl Holders {
+    /// Whether this depot has it.
+    pub fn includes(self, depot: crate::Depot) -> bool {
+        self.mask.checked_shr(depot.0).unwrap_or(0) & 1 == 1
     }
 }

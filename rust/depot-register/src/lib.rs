@@ -4,20 +4,22 @@
 //! messages, and not before:
 //!
 //! ```
-//! use depot_register::{Bearing, Counts, Crew, Depot, Reading, Register, Shelf, Written};
+//! use depot_register::{Bearing, Card, Counts, Crew, Depot, Reading, Register, Shelf, Written};
 //!
 //! # fn main() -> Result<(), depot_register::Refusal> {
 //! let counts = Counts { depots: 2, shelves: 1, bearings: 4, crews: 2 };
 //! let mut register = Register::setup(counts, &[Depot(0), Depot(1)])?;
 //! let (pump_crew, fan_crew) = (Crew(0), Crew(1));
 //! let bearing = Bearing(2);
+//! let card = Card { diameter: 52.0, width: 15.0 };
 //!
-//! assert_eq!(register.write(pump_crew, bearing, 9_131)?, Written::Current { stamp: 1 });
+//! assert_eq!(register.write(pump_crew, bearing, 9_131, card)?, Written::Current { stamp: 1 });
 //! assert_eq!(register.read(fan_crew, bearing)?, Reading::Unwritten);
 //!
 //! register.take(Depot(1), Shelf(0), Depot(0))?;
 //! register.refresh(Depot(1), Shelf(0))?;
-//! assert_eq!(register.read(fan_crew, bearing)?, Reading::Written { value: 9_131, vector: [1, 0, 0, 0] });
+//! assert_eq!(register.read(fan_crew, bearing)?, Reading::Written { value: 9_131, card, vector: [1, 0, 0, 0] });
+//! assert_eq!(card.grams()?, 3.9);
 //! # Ok(())
 //! # }
 //! ```
@@ -45,10 +47,12 @@
 
 mod answers;
 pub mod calendar;
+mod card;
 mod numbers;
 pub mod raw;
 
-pub use answers::{Reading, Refusal, Written};
+pub use answers::{Holders, Reading, Refusal, Written};
+pub use card::Card;
 pub use numbers::{Bearing, Crew, Depot, Shelf};
 
 /// The version of the register, as `include/depot_register.h` has it.
@@ -58,7 +62,7 @@ pub const WORDS: usize = 16_384;
 /// The words of a version record.
 pub const RECORD: usize = 9;
 /// The room that every answer line has, its line feed counted.
-pub const ANSWER_BYTES: usize = 64;
+pub const ANSWER_BYTES: usize = 80;
 
 /// The four counts of a register.
 #[derive(Clone, Copy, Debug, PartialEq, Eq, Hash)]
@@ -100,10 +104,10 @@ impl Register {
     /// A register from the words of a book, as [`words`](Register::words) gave them.
     ///
     /// ```
-    /// # use depot_register::{Bearing, Counts, Crew, Depot, Refusal, Register};
+    /// # use depot_register::{Bearing, Card, Counts, Crew, Depot, Refusal, Register};
     /// # let counts = Counts { depots: 1, shelves: 1, bearings: 1, crews: 1 };
     /// let mut register = Register::setup(counts, &[Depot(0)]).unwrap();
-    /// register.write(Crew(0), Bearing(0), 20).unwrap();
+    /// register.write(Crew(0), Bearing(0), 20, Card { diameter: 52.0, width: 15.0 }).unwrap();
     /// let mut again = Register::from_words(register.words().to_vec()).unwrap();
     /// assert_eq!(again.read(Crew(0), Bearing(0)).unwrap().value(), Some(20));
     /// assert_eq!(Register::from_words(vec![0; 16_384]), Err(Refusal::BadBook));
@@ -130,27 +134,32 @@ impl Register {
     ///
     /// An old book may hold values over [`LAST_DAY`](calendar::LAST_DAY); they are read as they are.
     pub fn read(&mut self, crew: Crew, bearing: Bearing) -> Result<Reading, Refusal> {
-        let mut out = [0; 6];
+        let mut out = [0; 8];
         Refusal::check(raw::read(&mut self.book, crew.0, bearing.0, &mut out))?;
-        let [written, value, a, b, c, d] = out;
-        Ok(if written == 1 { Reading::Written { value, vector: [a, b, c, d] } } else { Reading::Unwritten })
+        let [written, value, diameter, width, a, b, c, d] = out;
+        let card = Card::from_bits(diameter, width);
+        Ok(if written == 1 { Reading::Written { value, card, vector: [a, b, c, d] } } else { Reading::Unwritten })
     }
 
-    /// A crew writes a bearing's value, a day from 0 to [`LAST_DAY`](calendar::LAST_DAY), at its home.
+    /// A crew writes a bearing's value, a day from 0 to [`LAST_DAY`](calendar::LAST_DAY), and its card, at its home.
     ///
     /// ```
-    /// # use depot_register::{calendar::LAST_DAY, Bearing, Counts, Crew, Depot, Refusal, Register, Shelf, Written};
+    /// # use depot_register::{calendar::LAST_DAY, Bearing, Card, Counts, Crew, Depot, Refusal, Register, Shelf, Written};
     /// # let counts = Counts { depots: 1, shelves: 2, bearings: 2, crews: 1 };
     /// # let mut register = Register::setup(counts, &[Depot(0)]).unwrap();
-    /// assert_eq!(register.write(Crew(0), Bearing(0), 20), Ok(Written::Current { stamp: 1 }));
-    /// assert_eq!(register.write(Crew(0), Bearing(1), 30), Err(Refusal::Wait)); // shelf 1's clock is behind the crew
+    /// let card = Card { diameter: 52.0, width: 15.0 };
+    /// assert_eq!(register.write(Crew(0), Bearing(0), 20, card), Ok(Written::Current { stamp: 1 }));
+    /// assert_eq!(register.write(Crew(0), Bearing(1), 30, card), Err(Refusal::Wait)); // shelf 1's clock is behind the crew
     /// register.tick(Depot(0), Shelf(1)).unwrap();
-    /// assert_eq!(register.write(Crew(0), Bearing(1), 30), Ok(Written::Current { stamp: 2 }));
-    /// assert_eq!(register.write(Crew(0), Bearing(1), LAST_DAY + 1), Err(Refusal::BadDate)); // 1 January 2400
+    /// assert_eq!(register.write(Crew(0), Bearing(1), 30, card), Ok(Written::Current { stamp: 2 }));
+    /// assert_eq!(register.write(Crew(0), Bearing(1), LAST_DAY + 1, card), Err(Refusal::BadDate)); // 1 January 2400
+    /// let flat = Card { diameter: 52.0, width: 0.0 };
+    /// assert_eq!(register.write(Crew(0), Bearing(1), 30, flat), Err(Refusal::BadCard));
     /// ```
-    pub fn write(&mut self, crew: Crew, bearing: Bearing, value: u32) -> Result<Written, Refusal> {
+    pub fn write(&mut self, crew: Crew, bearing: Bearing, value: u32, card: Card) -> Result<Written, Refusal> {
         let mut out = [0; 2];
-        Refusal::check(raw::write(&mut self.book, crew.0, bearing.0, value, &mut out))?;
+        let (diameter, width) = (card.diameter.to_bits(), card.width.to_bits());
+        Refusal::check(raw::write(&mut self.book, crew.0, bearing.0, value, diameter, width, &mut out))?;
         let [stamp, current] = out;
         Ok(if current == 1 { Written::Current { stamp } } else { Written::Superseded { stamp } })
     }
@@ -170,14 +179,53 @@ impl Register {
         Refusal::check(raw::refresh(&mut self.book, depot.0, shelf.0))
     }
 
+    /// Which depots now store the version of a bearing that this depot has, or a greater one. Looking changes nothing.
+    ///
+    /// ```
+    /// # use depot_register::{Bearing, Card, Counts, Crew, Depot, Holders, Refusal, Register, Shelf};
+    /// # let counts = Counts { depots: 2, shelves: 1, bearings: 1, crews: 1 };
+    /// # let mut register = Register::setup(counts, &[Depot(0)]).unwrap();
+    /// assert_eq!(register.who_has(Depot(0), Bearing(0)), Ok(Holders { mask: 0b11, count: 2 })); // unwritten: all have it
+    /// # let card = Card { diameter: 52.0, width: 15.0 };
+    /// register.write(Crew(0), Bearing(0), 20, card).unwrap();
+    /// assert_eq!(register.who_has(Depot(0), Bearing(0)), Ok(Holders { mask: 0b01, count: 1 }));
+    /// register.take(Depot(1), Shelf(0), Depot(0)).unwrap();
+    /// register.refresh(Depot(1), Shelf(0)).unwrap();
+    /// assert!(register.who_has(Depot(0), Bearing(0)).unwrap().includes(Depot(1)));
+    /// assert_eq!(register.who_has(Depot(2), Bearing(1)), Err(Refusal::BadDepot));
+    /// ```
+    pub fn who_has(&self, depot: Depot, bearing: Bearing) -> Result<Holders, Refusal> {
+        let mut out = [0; 2];
+        Refusal::check(raw::who_has(&self.book, depot.0, bearing.0, &mut out))?;
+        let [mask, count] = out;
+        Ok(Holders { mask, count })
+    }
+
+    /// A crew gets a new home. There it reads nothing lower than what it has read and written so far.
+    ///
+    /// ```
+    /// # use depot_register::{Bearing, Card, Counts, Crew, Depot, Refusal, Register, Shelf};
+    /// # let counts = Counts { depots: 2, shelves: 1, bearings: 1, crews: 1 };
+    /// # let mut register = Register::setup(counts, &[Depot(0)]).unwrap();
+    /// # let card = Card { diameter: 52.0, width: 15.0 };
+    /// register.write(Crew(0), Bearing(0), 20, card).unwrap();
+    /// assert_eq!(register.move_crew(Crew(0), Depot(1)), Err(Refusal::NotHereYet)); // depot 1 has not heard of it
+    /// register.take(Depot(1), Shelf(0), Depot(0)).unwrap();
+    /// assert_eq!(register.move_crew(Crew(0), Depot(1)), Ok(()));
+    /// assert_eq!(register.read(Crew(0), Bearing(0)).unwrap().value(), Some(20));
+    /// ```
+    pub fn move_crew(&mut self, crew: Crew, depot: Depot) -> Result<(), Refusal> {
+        Refusal::check(raw::move_crew(&mut self.book, crew.0, depot.0))
+    }
+
     /// The answer to a line of the desk, with its line feed. The line comes without one.
     ///
     /// ```
     /// # use depot_register::{Counts, Depot, Register};
     /// # let counts = Counts { depots: 2, shelves: 1, bearings: 1, crews: 1 };
     /// # let mut register = Register::setup(counts, &[Depot(0)]).unwrap();
-    /// assert_eq!(register.line(b"W 0 0 20"), b"0 1 C\n");
-    /// assert_eq!(register.line(b"R 0 0"), b"0 20 1 0\n");
+    /// assert_eq!(register.line(b"W 0 0 20 1112539136 1097859072"), b"0 1 C\n"); // 52 by 15
+    /// assert_eq!(register.line(b"R 0 0"), b"0 20 1112539136 1097859072 1 0\n");
     /// assert_eq!(register.line(b"read it"), b"13\n");
     /// ```
     pub fn line(&mut self, line: &[u8]) -> Vec<u8> {
@@ -199,8 +247,8 @@ pub fn is_fit(words: &[u32]) -> bool {
 /// The greater of two version records of a register with so many depots, the first if neither is greater.
 ///
 /// ```
-/// let old = [0, 20, 0, 0, 0, 1, 0, 0, 0]; // bearing, value, two spare words, origin, vector
-/// let new = [0, 30, 0, 0, 1, 1, 1, 0, 0];
+/// let old = [0, 20, 1065353216, 1065353216, 0, 1, 0, 0, 0]; // bearing, value, the card's bits, origin, vector
+/// let new = [0, 30, 1065353216, 1065353216, 1, 1, 1, 0, 0];
 /// assert!(std::ptr::eq(depot_register::greater(&old, &new, 2), &new));
 /// ```
 pub fn greater<'a>(a: &'a [u32; RECORD], b: &'a [u32; RECORD], depots: u32) -> &'a [u32; RECORD] {

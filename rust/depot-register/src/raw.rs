@@ -1,7 +1,8 @@
 //! The static library's functions as they are, on slices and numbers. `include/depot_register.h` says what each does.
 //!
 //! They are safe for all slices and all numbers: the library reads and writes only inside the slices it is given, and
-//! answers a wrong length with a number. The rest of this crate is built on them, without `unsafe`.
+//! answers a wrong length with a number: 100, NO ROOM, where `out` is too short for the answer, and nothing is done then. The
+//! rest of this crate is built on them, without `unsafe`; its buffers always have room, so none of its calls says NO ROOM.
 
 mod library {
     extern "C" {
@@ -17,18 +18,24 @@ mod library {
             homes_count: usize,
         ) -> u32;
         pub fn depot_read(book: *mut u32, words: usize, crew: u32, bearing: u32, out: *mut u32, out_count: usize) -> u32;
+        #[allow(clippy::too_many_arguments)]
         pub fn depot_write(
             book: *mut u32,
             words: usize,
             crew: u32,
             bearing: u32,
             value: u32,
+            diameter: u32,
+            width: u32,
             out: *mut u32,
             out_count: usize,
         ) -> u32;
+        pub fn depot_grams(diameter: u32, width: u32, out: *mut u32, out_count: usize) -> u32;
         pub fn depot_tick(book: *mut u32, words: usize, depot: u32, shelf: u32) -> u32;
         pub fn depot_take(book: *mut u32, words: usize, depot: u32, shelf: u32, from: u32) -> u32;
         pub fn depot_refresh(book: *mut u32, words: usize, depot: u32, shelf: u32) -> u32;
+        pub fn depot_who_has(book: *const u32, words: usize, depot: u32, bearing: u32, out: *mut u32, out_count: usize) -> u32;
+        pub fn depot_move(book: *mut u32, words: usize, crew: u32, depot: u32) -> u32;
         pub fn depot_is_fit(book: *const u32, words: usize) -> u32;
         pub fn depot_greater(a: *const u32, a_words: usize, b: *const u32, b_words: usize, depots: u32) -> u32;
         pub fn depot_line(book: *mut u32, words: usize, line: *const u8, length: usize, out: *mut u8, out_length: usize)
@@ -51,8 +58,13 @@ pub fn read(book: &mut [u32], crew: u32, bearing: u32, out: &mut [u32]) -> u32 {
     unsafe { library::depot_read(book.as_mut_ptr(), book.len(), crew, bearing, out.as_mut_ptr(), out.len()) }
 }
 
-pub fn write(book: &mut [u32], crew: u32, bearing: u32, value: u32, out: &mut [u32]) -> u32 {
-    unsafe { library::depot_write(book.as_mut_ptr(), book.len(), crew, bearing, value, out.as_mut_ptr(), out.len()) }
+pub fn write(book: &mut [u32], crew: u32, bearing: u32, value: u32, diameter: u32, width: u32, out: &mut [u32]) -> u32 {
+    let (book, words, room) = (book.as_mut_ptr(), book.len(), out.len());
+    unsafe { library::depot_write(book, words, crew, bearing, value, diameter, width, out.as_mut_ptr(), room) }
+}
+
+pub fn grams(diameter: u32, width: u32, out: &mut [u32]) -> u32 {
+    unsafe { library::depot_grams(diameter, width, out.as_mut_ptr(), out.len()) }
 }
 
 pub fn tick(book: &mut [u32], depot: u32, shelf: u32) -> u32 {
@@ -65,6 +77,14 @@ pub fn take(book: &mut [u32], depot: u32, shelf: u32, from: u32) -> u32 {
 
 pub fn refresh(book: &mut [u32], depot: u32, shelf: u32) -> u32 {
     unsafe { library::depot_refresh(book.as_mut_ptr(), book.len(), depot, shelf) }
+}
+
+pub fn who_has(book: &[u32], depot: u32, bearing: u32, out: &mut [u32]) -> u32 {
+    unsafe { library::depot_who_has(book.as_ptr(), book.len(), depot, bearing, out.as_mut_ptr(), out.len()) }
+}
+
+pub fn move_crew(book: &mut [u32], crew: u32, depot: u32) -> u32 {
+    unsafe { library::depot_move(book.as_mut_ptr(), book.len(), crew, depot) }
 }
 
 pub fn is_fit(book: &[u32]) -> u32 {

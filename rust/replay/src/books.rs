@@ -123,7 +123,7 @@ fn lay_link(
     }
 }
 
-/// A version record; its spare words and the words past the depots stay as they are.
+/// A version record; the words past the depots stay as they are.
 fn version(
     random: &mut Random,
     record: &mut [u32],
@@ -134,6 +134,7 @@ fn version(
 ) {
     record[BEARING] = bearing as u32;
     record[VALUE] = values::in_book(random);
+    record[DIAMETER..ORIGIN].copy_from_slice(&values::card(random));
     record[ORIGIN] = origin as u32;
     (0..n.depots).for_each(|x| record[VECTOR + x] = entry(random));
     record[VECTOR + origin] = record[VECTOR + origin].max(1);

@@ -13,6 +13,7 @@ use crate::lines;
 use crate::parts::{looks, pieces, Call, Named};
 use crate::random::Random;
 use crate::register::{Register, Straight};
+use crate::values;
 use straight::calendar::LAST_DAY;
 use straight::layout::*;
 use straight::Counts;
@@ -116,26 +117,27 @@ fn book(random: &mut Random, kind: usize) -> Vec<u32> {
     book
 }
 
-/// A call with numbers in range: a read, a write, a tick, a take or a refresh.
+/// A call with numbers in range: a read, a write, a tick, a take, a refresh or a move.
 fn event(random: &mut Random, n: Counts, kind: usize) -> Event {
     let below = |random: &mut Random, count: usize| random.below(count) as u32;
     let (crew, bearing) = (below(random, n.crews), below(random, n.bearings));
     let (depot, shelf, from) = (below(random, n.depots), below(random, n.shelves), below(random, n.depots));
     match kind {
         0 => Event::Read { crew, bearing },
-        1 => Event::Write { crew, bearing, value: below(random, 100) },
+        1 => Event::Write { crew, bearing, value: below(random, 100), card: values::card(random) },
         2 => Event::Tick { depot, shelf },
         3 => Event::Take { depot, shelf, from },
-        _ => Event::Refresh { depot, shelf },
+        4 => Event::Refresh { depot, shelf },
+        _ => Event::Move { crew, depot },
     }
 }
 
 /// For a book, each call once, done if there is one that can be; one with a number out of range, by the kind of the book; the
-/// write of a day beyond the calendar; and a line.
+/// writes of a day beyond the calendar and of no card; and a line.
 fn calls(random: &mut Random, book: &[u32], kind: usize) -> Vec<Called> {
     let n = Counts::of(book);
     let done = |event: &Event| Step::new(event.clone()).run(&Straight, &mut book.to_vec()).number == 0;
-    let mut events: Vec<Event> = (0..5)
+    let mut events: Vec<Event> = (0..6)
         .map(|kind| {
             let mut found = event(random, n, kind);
             for _ in 0..200 {
@@ -152,11 +154,12 @@ fn calls(random: &mut Random, book: &[u32], kind: usize) -> Vec<Called> {
     events.push(match kind {
         0 => Event::Read { crew: 0, bearing: n.bearings as u32 },
         1 => Event::Take { depot: 0, shelf: 0, from: 0 },
-        2 => Event::Write { crew: 0, bearing: n.bearings as u32, value: 0 },
+        2 => Event::Move { crew: 0, depot: n.depots as u32 },
         _ => Event::Tick { depot: 0, shelf: n.shelves as u32 },
     });
-    if let Event::Write { crew, bearing, .. } = events[1] {
-        events.push(Event::Write { crew, bearing, value: LAST_DAY + 1 });
+    if let Event::Write { crew, bearing, card, .. } = events[1] {
+        events.push(Event::Write { crew, bearing, value: LAST_DAY + 1, card });
+        events.push(Event::Write { crew, bearing, value: LAST_DAY, card: [card[0], 0] });
     }
     let line = random.choose(&[0, 1, 2, 3, 4]);
     let text = lines::text(&events[line]);
@@ -174,6 +177,7 @@ fn name(called: &Called) -> &'static str {
         Event::Tick { .. } => "tick",
         Event::Take { .. } => "take",
         Event::Refresh { .. } => "refresh",
+        Event::Move { .. } => "move",
         Event::Fit => "is_fit",
         _ => "line",
     }
@@ -203,10 +207,13 @@ fn places(book: &[u32], event: &Event, done: bool) -> Places {
         };
         if looked_at {
             piece.used(book, n).into_iter().for_each(|at| places.looks[at] = true);
-            if done && named.is_some() {
+            if done && named.as_ref().is_some_and(|named| named.call != Call::Move) {
                 piece.words(book, n).into_iter().for_each(|at| places.writes[at] = true);
             }
         }
+    }
+    if let Event::Move { crew, .. } = event {
+        places.writes[home(*crew as usize)] = done;
     }
     if let Some(named) = named.filter(|named| done && matches!(named.call, Call::Write | Call::Tick)) {
         for to in (0..n.depots).filter(|&to| to != named.depot) {
@@ -303,7 +310,7 @@ mod tests {
             let book = book(&mut random, kind);
             let mut messages = Vec::new();
             for piece in pieces(Counts::of(&book)) {
-                if let Piece::Messages { shelf, from, to } = piece {
+                if let Piece::Head { shelf, from, to } = piece {
                     let link = link(shelf, from, to);
                     let place = |place| (place < book[taken(link)] as usize, book[slot(link, place)]);
                     messages.extend((0..book[held(link)] as usize).map(place));
@@ -312,7 +319,7 @@ mod tests {
             for message in [(true, COPY), (false, COPY), (false, HEARTBEAT)] {
                 assert!(messages.contains(&message), "book {} has no message {:?}", kind, message);
             }
-            for called in calls(&mut random, &book, kind).iter().take(5) {
+            for called in calls(&mut random, &book, kind).iter().take(6) {
                 assert_eq!(called.step.run(&Straight, &mut book.clone()).number, 0, "book {}: {}", kind, called.step);
             }
         }

@@ -8,9 +8,9 @@ use straight::WORDS;
 /// The words of the buffer that the book is a part of, so that a book can also be too long.
 pub const BUFFER: usize = WORDS + 16;
 /// The most that a read or a write is lent for its answer.
-pub const MOST_OUT: usize = 8;
+pub const MOST_OUT: usize = 10;
 /// The most that a line is lent for its answer.
-pub const MOST_BYTES: usize = 72;
+pub const MOST_BYTES: usize = 88;
 
 #[derive(Clone, Debug, PartialEq)]
 pub enum Event {
@@ -33,6 +33,8 @@ pub enum Event {
         crew: u32,
         bearing: u32,
         value: u32,
+        /// The bits of diameter and width.
+        card: [u32; 2],
     },
     Tick {
         depot: u32,
@@ -47,11 +49,19 @@ pub enum Event {
         depot: u32,
         shelf: u32,
     },
+    Move {
+        crew: u32,
+        depot: u32,
+    },
     Fit,
     Greater {
         a: Vec<u32>,
         b: Vec<u32>,
         depots: u32,
+    },
+    /// The grams of the card of two words.
+    Grams {
+        card: [u32; 2],
     },
     Line(Vec<u8>),
 }
@@ -82,7 +92,7 @@ impl Step {
     pub fn most_room(event: &Event) -> usize {
         match event {
             Event::Line(_) => MOST_BYTES,
-            Event::Read { .. } | Event::Write { .. } => MOST_OUT,
+            Event::Read { .. } | Event::Write { .. } | Event::Grams { .. } => MOST_OUT,
             _ => 0,
         }
     }
@@ -106,12 +116,16 @@ impl Step {
             }
             Event::Setup { counts, homes } => register.setup(book, *counts, homes),
             Event::Read { crew, bearing } => register.read(book, *crew, *bearing, &mut out[..self.room]),
-            Event::Write { crew, bearing, value } => register.write(book, *crew, *bearing, *value, &mut out[..self.room]),
+            Event::Write { crew, bearing, value, card } => {
+                register.write(book, *crew, *bearing, *value, *card, &mut out[..self.room])
+            }
             Event::Tick { depot, shelf } => register.tick(book, *depot, *shelf),
             Event::Take { depot, shelf, from } => register.take(book, *depot, *shelf, *from),
             Event::Refresh { depot, shelf } => register.refresh(book, *depot, *shelf),
+            Event::Move { crew, depot } => register.move_crew(book, *crew, *depot),
             Event::Fit => register.is_fit(book),
             Event::Greater { a, b, depots } => register.greater(a, b, *depots),
+            Event::Grams { card } => register.grams(*card, &mut out[..self.room]),
             Event::Line(text) => {
                 outcome.number = register.line(book, text, &mut bytes[..self.room]);
                 return outcome;
@@ -142,12 +156,16 @@ impl fmt::Display for Step {
             Event::Put { at, word } => write!(f, "put [{}]={}", at, word),
             Event::Setup { counts, homes } => write!(f, "setup {:?} homes {:?}", counts, homes),
             Event::Read { crew, bearing } => write!(f, "read crew {} bearing {}", crew, bearing),
-            Event::Write { crew, bearing, value } => write!(f, "write crew {} bearing {} value {}", crew, bearing, value),
+            Event::Write { crew, bearing, value, card } => {
+                write!(f, "write crew {} bearing {} value {} card {:#x} {:#x}", crew, bearing, value, card[0], card[1])
+            }
             Event::Tick { depot, shelf } => write!(f, "tick depot {} shelf {}", depot, shelf),
             Event::Take { depot, shelf, from } => write!(f, "take at depot {} shelf {} from depot {}", depot, shelf, from),
             Event::Refresh { depot, shelf } => write!(f, "refresh depot {} shelf {}", depot, shelf),
+            Event::Move { crew, depot } => write!(f, "move crew {} to depot {}", crew, depot),
             Event::Fit => write!(f, "is the book fit"),
             Event::Greater { a, b, depots } => write!(f, "greater of {:?} and {:?}, {} depots", a, b, depots),
+            Event::Grams { card } => write!(f, "grams of {:#x} {:#x}", card[0], card[1]),
             Event::Line(text) => match std::str::from_utf8(text) {
                 Ok(text) => write!(f, "line {:?}", text),
                 Err(_) => write!(f, "line of the bytes {:?}", text),

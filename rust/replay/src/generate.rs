@@ -102,7 +102,7 @@ impl Generator {
         }
         if step.room > 0 && self.random.below(32) == 0 {
             step.room = match step.event {
-                Event::Line(_) => self.random.choose(&[0, 1, 63, 64, 65, MOST_BYTES]),
+                Event::Line(_) => self.random.choose(&[0, 1, 79, 80, 81, MOST_BYTES]),
                 _ => self.random.below(MOST_OUT + 1),
             };
         }
@@ -130,10 +130,10 @@ impl Generator {
             Mood::Wrong => self.wrong(book),
             Mood::Damage => self.damage(book),
             Mood::Ends => self.ends(book),
-            Mood::Lines => {
-                let call = self.call(book);
-                Event::Line(lines::text(&call))
-            }
+            Mood::Lines => match self.call(book) {
+                call @ Event::Move { .. } => call,
+                call => Event::Line(lines::text(&call)),
+            },
             _ => self.call(book),
         }
     }
@@ -152,6 +152,7 @@ impl Generator {
         match self.random.below(8) {
             0 => self.afresh(),
             1 => Event::Fit,
+            2 | 3 => Event::Grams { card: values::card_to_write(&mut self.random) },
             _ => self.greater(),
         }
     }
@@ -161,10 +162,10 @@ impl Generator {
         let any = Counts { depots: 2, shelves: 2, bearings: 4, crews: 2 };
         let n = if counts_and_homes(book) { Counts::of(book) } else { any };
         let weights = match self.mood {
-            Mood::Writers | Mood::Ends => [10, 75, 15, 0, 0],
-            Mood::Takers => [15, 0, 0, 70, 15],
-            Mood::Hoard => [2, 45, 3, 50, 0],
-            _ => [20, 25, 15, 25, 15],
+            Mood::Writers | Mood::Ends => [10, 73, 15, 0, 0, 2],
+            Mood::Takers => [15, 0, 0, 65, 15, 5],
+            Mood::Hoard => [2, 45, 3, 49, 0, 1],
+            _ => [20, 25, 15, 25, 10, 5],
         };
         let (depot, shelf) = (self.random.below(n.depots) as u32, self.random.below(n.shelves) as u32);
         let mut at = self.random.below(100);
@@ -178,7 +179,8 @@ impl Generator {
             1 => self.write(book, n),
             2 => Event::Tick { depot, shelf },
             3 => self.take(book, n),
-            _ => Event::Refresh { depot, shelf },
+            4 => Event::Refresh { depot, shelf },
+            _ => Event::Move { crew: self.random.below(n.crews) as u32, depot },
         }
     }
 
@@ -191,6 +193,7 @@ impl Generator {
     /// A write, mostly one that need not wait.
     fn write(&mut self, book: &[u32], n: Counts) -> Event {
         let value = values::to_write(&mut self.random);
+        let card = values::card_to_write(&mut self.random);
         let mut crew = self.random.below(n.crews);
         let mut bearing = self.bearing(n);
         for _ in 0..4 {
@@ -201,7 +204,7 @@ impl Generator {
             crew = self.random.below(n.crews);
             bearing = self.bearing(n);
         }
-        Event::Write { crew: crew as u32, bearing, value }
+        Event::Write { crew: crew as u32, bearing, value, card }
     }
 
     /// A take, mostly from a link that has something untaken.
@@ -274,14 +277,19 @@ impl Generator {
                 spoil(crew, n.crews);
                 spoil(bearing, n.bearings);
             }
-            Event::Write { crew, bearing, value } => {
+            Event::Write { crew, bearing, value, card } => {
                 spoil(crew, n.crews);
                 spoil(bearing, n.bearings);
                 spoil(value, LAST_DAY as usize + 1);
+                card.iter_mut().for_each(|length| spoil(length, 0x44FA_0001));
             }
             Event::Tick { depot, shelf } | Event::Refresh { depot, shelf } => {
                 spoil(depot, n.depots);
                 spoil(shelf, n.shelves);
+            }
+            Event::Move { crew, depot } => {
+                spoil(crew, n.crews);
+                spoil(depot, n.depots);
             }
             Event::Take { depot, shelf, from } => {
                 spoil(depot, n.depots);
@@ -362,6 +370,10 @@ impl Generator {
                 self.random.choose(&[up, down, old.wrapping_add(shelves), bearings.wrapping_sub(1), bearings])
             }
             (2, _) => values::in_book(&mut self.random),
+            (3 | 4, _) => {
+                let lengths = if self.random.percent(70) { &values::NO_LENGTHS[..] } else { &values::LENGTHS[..] };
+                self.random.choose(lengths)
+            }
             (5, _) | (_, 4..=19) => self.random.below(n.depots.min(4) + 1) as u32,
             (_, 228..=355) => self.random.choose(&[0, up, up, down, ROOM - 1, ROOM, ROOM + 1]),
             _ => self.random.choose(&[0, 1, up, down, END, END + 1]),

@@ -8,7 +8,7 @@ pub fn text(call: &Event) -> Vec<u8> {
     let (letter, numbers) = match call {
         Event::Setup { counts, homes } => ('S', counts.iter().chain(homes).copied().collect()),
         Event::Read { crew, bearing } => ('R', vec![*crew, *bearing]),
-        Event::Write { crew, bearing, value } => ('W', vec![*crew, *bearing, *value]),
+        Event::Write { crew, bearing, value, card } => ('W', vec![*crew, *bearing, *value, card[0], card[1]]),
         Event::Tick { depot, shelf } => ('K', vec![*depot, *shelf]),
         Event::Take { depot, shelf, from } => ('T', vec![*depot, *shelf, *from]),
         Event::Refresh { depot, shelf } => ('F', vec![*depot, *shelf]),
@@ -30,7 +30,7 @@ pub fn damaged(random: &mut Random, call: &Event) -> Vec<u8> {
         6 => after_space(random, &mut line, b'+'),
         7 => {
             let number = random.choose(&[
-                "146095", "146096", "146097", "4294967295", "4294967296", "4294967297", "9999999999", "10000000000",
+                "146095", "146096", "146097", "1", "1157234688", "1157234689", "2139095040", "4294967295", "4294967296", "4294967297", "9999999999", "10000000000",
                 "18446744073709551616",
             ]);
             last_number(&mut line, number);
@@ -41,8 +41,11 @@ pub fn damaged(random: &mut Random, call: &Event) -> Vec<u8> {
         }
         9 => line.extend_from_slice(b" 0"),
         10 => {
-            let end = line.iter().rposition(|&byte| byte == b' ').unwrap_or(0);
-            line.truncate(end);
+            // One number too few; of a write now and then its card.
+            for _ in 0..random.between(1, 2) {
+                let end = line.iter().rposition(|&byte| byte == b' ').unwrap_or(0);
+                line.truncate(end);
+            }
         }
         11 => line[0] = random.choose(b"srwktfXL 0\n\r\0\xFF"),
         12 => line.insert(1, random.choose(b"SRWKTF0\t\0")),

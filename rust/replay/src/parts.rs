@@ -13,9 +13,10 @@ pub enum Call {
     Tick,
     Take,
     Refresh,
+    Move,
 }
 
-pub const CALLS: [Call; 5] = [Call::Read, Call::Write, Call::Tick, Call::Take, Call::Refresh];
+pub const CALLS: [Call; 6] = [Call::Read, Call::Write, Call::Tick, Call::Take, Call::Refresh, Call::Move];
 
 /// What a piece of the book is to a call on shelf s of depot d. Each piece is one of these.
 #[derive(Clone, Copy, Debug, PartialEq, Eq)]
@@ -34,9 +35,11 @@ pub enum Part {
     SeenHere,
     SeenBeside,
     SeenElsewhere,
-    /// Of the link from the sender named or, if none is, of all links into (d, s): the heads, and the messages.
+    /// Of the link from the sender named or, if none is, of all links into (d, s): the heads, the taken copies, and the untaken
+    /// messages.
     HeadsIn,
-    MessagesIn,
+    TakenIn,
+    UntakenIn,
     /// Of the links into (d, s) from other depots than the sender named.
     OtherHeadsIn,
     OtherMessagesIn,
@@ -56,7 +59,7 @@ pub enum Part {
     StoredElsewhere,
 }
 
-pub const PARTS: [Part; 23] = [
+pub const PARTS: [Part; 24] = [
     Part::CrewVector,
     Part::OtherCrews,
     Part::Clock,
@@ -68,7 +71,8 @@ pub const PARTS: [Part; 23] = [
     Part::SeenBeside,
     Part::SeenElsewhere,
     Part::HeadsIn,
-    Part::MessagesIn,
+    Part::TakenIn,
+    Part::UntakenIn,
     Part::OtherHeadsIn,
     Part::OtherMessagesIn,
     Part::HeadsOut,
@@ -85,13 +89,14 @@ pub const PARTS: [Part; 23] = [
 /// Whether a call looks at a part: the table.
 pub fn looks(call: Call, part: Part) -> bool {
     use Part::*;
-    let raise_and_show = matches!(part, Stable | HeadsIn | MessagesIn | StoredTaken);
+    let raise_and_show = matches!(part, Stable | HeadsIn | TakenIn | UntakenIn | StoredTaken);
     let read = matches!(part, CrewVector | StoredNamed) || raise_and_show;
     let tick = matches!(part, Clock | HeadsOut);
     match call {
         Call::Tick => tick,
-        Call::Take => matches!(part, SeenFrom | HeadsIn | MessagesIn),
+        Call::Take => matches!(part, SeenFrom | HeadsIn | UntakenIn),
         Call::Refresh => matches!(part, SeenHere | SeenBeside) || raise_and_show,
+        Call::Move => matches!(part, CrewVector | SeenHere | SeenBeside),
         Call::Read => read,
         Call::Write => read || tick,
     }
@@ -100,7 +105,8 @@ pub fn looks(call: Call, part: Part) -> bool {
 /// Whether a part means anything to a call: a tick names no crew.
 pub fn means(call: Call, part: Part) -> bool {
     match part {
-        Part::CrewVector | Part::StoredNamed => matches!(call, Call::Read | Call::Write),
+        Part::CrewVector => matches!(call, Call::Read | Call::Write | Call::Move),
+        Part::StoredNamed => matches!(call, Call::Read | Call::Write),
         Part::SeenFrom | Part::OtherHeadsIn | Part::OtherMessagesIn => call == Call::Take,
         _ => true,
     }
@@ -114,7 +120,8 @@ pub enum Piece {
     Stable { depot: usize, shelf: usize },
     Seen { depot: usize, shelf: usize, from: usize },
     Head { shelf: usize, from: usize, to: usize },
-    Messages { shelf: usize, from: usize, to: usize },
+    Taken { shelf: usize, from: usize, to: usize },
+    Untaken { shelf: usize, from: usize, to: usize },
     Stored { depot: usize, bearing: usize },
 }
 
@@ -128,7 +135,8 @@ pub fn pieces(n: Counts) -> Vec<Piece> {
             for other in (0..n.depots).filter(|&other| other != depot) {
                 all.push(Piece::Seen { depot, shelf, from: other });
                 all.push(Piece::Head { shelf, from: depot, to: other });
-                all.push(Piece::Messages { shelf, from: depot, to: other });
+                all.push(Piece::Taken { shelf, from: depot, to: other });
+                all.push(Piece::Untaken { shelf, from: depot, to: other });
             }
         }
         all.extend((0..n.bearings).map(|bearing| Piece::Stored { depot, bearing }));
@@ -146,9 +154,9 @@ impl Piece {
             Piece::Stable { depot, shelf } => entries(stable(depot, shelf)),
             Piece::Seen { depot, shelf, from } => vec![seen(depot, shelf, from)],
             Piece::Head { shelf, from, to } => vec![held(link(shelf, from, to)), taken(link(shelf, from, to))],
-            Piece::Messages { shelf, from, to } => {
-                let link = link(shelf, from, to);
-                (0..messages_held(book, link)).flat_map(|place| message_used(book, n, slot(link, place))).collect()
+            Piece::Taken { shelf, from, to } | Piece::Untaken { shelf, from, to } => {
+                let message = |place| message_used(book, n, slot(link(shelf, from, to), place));
+                self.places(book, ROOM).flat_map(message).collect()
             }
             Piece::Stored { depot, bearing } => {
                 let record = stored(depot, bearing);
@@ -162,15 +170,31 @@ impl Piece {
         }
     }
 
-    /// All words of it, those included that only travel along: spare words, entries past the depots.
+    /// All words of it, those included that only travel along: entries past the depots.
     pub fn words(self, book: &[u32], n: Counts) -> Vec<usize> {
         match self {
-            Piece::Messages { shelf, from, to } => {
-                let link = link(shelf, from, to);
-                (slot(link, 0)..slot(link, messages_held(book, link))).collect()
+            Piece::Taken { shelf, from, to } | Piece::Untaken { shelf, from, to } => {
+                let places = self.places(book, ROOM);
+                (slot(link(shelf, from, to), places.start)..slot(link(shelf, from, to), places.end)).collect()
             }
             Piece::Stored { depot, bearing } => (stored(depot, bearing)..stored(depot, bearing + 1)).collect(),
             _ => self.used(book, n),
+        }
+    }
+
+    /// The places of the messages that it is made of, of a link with so much room: the taken ones stand first.
+    pub fn places(self, book: &[u32], room: u32) -> std::ops::Range<usize> {
+        let counts = |link| {
+            let held = book[held(link)].min(room);
+            (book[taken(link)].min(held) as usize, held as usize)
+        };
+        match self {
+            Piece::Taken { shelf, from, to } => 0..counts(link(shelf, from, to)).0,
+            Piece::Untaken { shelf, from, to } => {
+                let (taken, held) = counts(link(shelf, from, to));
+                taken..held
+            }
+            _ => 0..0,
         }
     }
 }
@@ -191,7 +215,7 @@ fn message_used(book: &[u32], n: Counts, message: usize) -> Vec<usize> {
 
 fn record_used(n: Counts, record: usize) -> Vec<usize> {
     let vector = record + VECTOR..record + VECTOR + n.depots;
-    [record + BEARING, record + VALUE, record + ORIGIN].into_iter().chain(vector).collect()
+    [record + BEARING, record + VALUE, record + DIAMETER, record + WIDTH, record + ORIGIN].into_iter().chain(vector).collect()
 }
 
 /// What a call names, its numbers in range.
@@ -228,6 +252,10 @@ impl Named {
             Event::Tick { depot, shelf } => shelf_call(Call::Tick, depot, shelf, None),
             Event::Take { depot, shelf, from } => shelf_call(Call::Take, depot, shelf, Some(from)),
             Event::Refresh { depot, shelf } => shelf_call(Call::Refresh, depot, shelf, None),
+            // A move is to all shelves of the new home; the first stands for them.
+            Event::Move { crew, depot } => shelf_call(Call::Move, depot, 0, None)
+                .filter(|_| (crew as usize) < n.crews)
+                .map(|(call, depot, shelf, _, bearing, from)| (call, depot, shelf, Some(crew as usize), bearing, from)),
             _ => None,
         }?;
         let (mut taken_ones, mut untaken_ones) = (Vec::new(), Vec::new());
@@ -259,8 +287,11 @@ impl Named {
             Piece::Head { shelf, from, to } => {
                 self.link(shelf, from, to, [Part::HeadsIn, Part::OtherHeadsIn, Part::HeadsOut, Part::OtherHeads])
             }
-            Piece::Messages { shelf, from, to } => {
-                self.link(shelf, from, to, [Part::MessagesIn, Part::OtherMessagesIn, Part::MessagesOut, Part::OtherMessages])
+            Piece::Taken { shelf, from, to } => {
+                self.link(shelf, from, to, [Part::TakenIn, Part::OtherMessagesIn, Part::MessagesOut, Part::OtherMessages])
+            }
+            Piece::Untaken { shelf, from, to } => {
+                self.link(shelf, from, to, [Part::UntakenIn, Part::OtherMessagesIn, Part::MessagesOut, Part::OtherMessages])
             }
             Piece::Stored { depot, .. } if depot != self.depot => Part::StoredElsewhere,
             Piece::Stored { bearing, .. } if self.bearing == Some(bearing) => Part::StoredNamed,

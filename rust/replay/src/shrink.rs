@@ -191,9 +191,11 @@ fn numbers(event: &mut Event) -> Vec<&mut u32> {
         Event::Put { word, .. } => vec![word],
         Event::Setup { counts, homes } => counts.iter_mut().chain(homes).collect(),
         Event::Read { crew, bearing } => vec![crew, bearing],
-        Event::Write { crew, bearing, value } => vec![crew, bearing, value],
+        Event::Write { crew, bearing, value, card } => vec![crew, bearing, value].into_iter().chain(card).collect(),
+        Event::Grams { card } => card.iter_mut().collect(),
         Event::Tick { depot, shelf } | Event::Refresh { depot, shelf } => vec![depot, shelf],
         Event::Take { depot, shelf, from } => vec![depot, shelf, from],
+        Event::Move { crew, depot } => vec![crew, depot],
         Event::Greater { a, b, depots } => a.iter_mut().chain(b).chain(Some(depots)).collect(),
         Event::Fit | Event::Line(_) => Vec::new(),
     }

@@ -16,7 +16,7 @@ pub fn stream(seed: u64, count: u64) -> Vec<u8> {
         while let Some(step) = generator.next(&book) {
             let line = match &step.event {
                 Event::Line(line) => line.clone(),
-                Event::Lay(_) | Event::Put { .. } | Event::Fit | Event::Greater { .. } => continue,
+                Event::Lay(_) | Event::Put { .. } | Event::Fit | Event::Greater { .. } | Event::Grams { .. } => continue,
                 call => lines::text(call),
             };
             // A line feed within makes two lines of it.

@@ -7,10 +7,10 @@ use straight::calendar::LAST_DAY;
 use straight::layout::*;
 use straight::Counts;
 
-const CALLS: [&str; 7] = ["setup", "read", "write", "tick", "take", "refresh", "line"];
+const CALLS: [&str; 8] = ["setup", "read", "write", "tick", "take", "refresh", "line", "move"];
 const NAMES: [&str; 17] = [
     "done", "BAD BOOK", "BAD DEPOT", "BAD SHELF", "BAD KEY", "BAD CREW", "SAME DEPOT", "EMPTY LINK", "WAIT", "LINK FULL",
-    "CLOCK AT END", "BAD COUNTS", "", "BAD LINE", "", "", "BAD DATE",
+    "CLOCK AT END", "BAD COUNTS", "NOT HERE YET", "BAD LINE", "BAD CARD", "", "BAD DATE",
 ];
 
 macro_rules! marks {
@@ -55,10 +55,31 @@ marks! {
     LateRead: "a read of a value beyond 146,096",
     LateStored: "a copy with a value beyond 146,096 shown and stored",
     LineLate: "a line, BAD DATE",
+    CardMost: "a write with a length of 2,000, done",
+    CardLeast: "a write with a length below the least float that has all its digits, done",
+    CardNext: "a write with the float after 2,000, BAD CARD",
+    CardZero: "a write with 0 or negative 0, BAD CARD",
+    CardNan: "a write with a NaN, BAD CARD",
+    CardInfinite: "a write with an infinity, BAD CARD",
+    CardWidth: "a write of which the width alone is no length, BAD CARD",
+    CardAndMore: "BAD CARD, and WAIT, CLOCK AT END or LINK FULL would hold too",
+    CardAndLate: "BAD DATE, and the card is none either",
+    CardNumber: "a write of no card with a crew or a bearing out of range",
+    CardPart: "a write of no card, and BAD BOOK for a part of it",
+    LineCard: "a line, BAD CARD",
+    Weighed: "grams of a card",
+    NotWeighed: "grams of no card",
     ToEnd: "a clock that reaches 2,147,483,647",
     BeatBehind: "a heartbeat taken from behind taken copies",
     BeatBefore: "a heartbeat taken with messages behind it",
     SeenFalls: "a take that lowers the stamp seen",
+    Moved: "a move done to another depot",
+    MovedFar: "a move of a crew that has heard of another depot than the new home, done",
+    OwnAbove: "a move done with the new home's own entry above every stamp seen there",
+    ToPresent: "a move to the present home, done",
+    PresentBehind: "a move to the present home, done, that has not seen all that the crew has",
+    OneBehind: "NOT HERE YET, and one shelf of the new home has seen it all",
+    OtherBehind: "NOT HERE YET for another depot than the present home",
     Laid: "a fit book laid out at random",
     Unfit: "a word changed, and the book is not fit",
     DoneUnfit: "a call done on a book that is not fit elsewhere",
@@ -84,7 +105,7 @@ pub struct Tally {
     pub events: u64,
     /// Lines that are BAD LINE.
     pub bad_lines: u64,
-    answers: [[u64; 17]; 7],
+    answers: [[u64; 17]; 8],
     marks: Vec<u64>,
     /// Whether the book is fit, as far as the last event that says so told.
     fit: bool,
@@ -92,7 +113,7 @@ pub struct Tally {
 
 impl Default for Tally {
     fn default() -> Tally {
-        Tally { events: 0, bad_lines: 0, answers: [[0; 17]; 7], marks: vec![0; MARKS.len()], fit: false }
+        Tally { events: 0, bad_lines: 0, answers: [[0; 17]; 8], marks: vec![0; MARKS.len()], fit: false }
     }
 }
 
@@ -124,16 +145,20 @@ impl Tally {
 
     /// Counts a step, by the buffer before and after it.
     pub fn count(&mut self, step: &Step, before: &[u32], after: &[u32], outcome: &Outcome) {
-        let done = self.answer(step, outcome);
-        let called = !matches!(step.event, Event::Lay(_) | Event::Put { .. } | Event::Greater { .. });
+        let called = !matches!(step.event, Event::Lay(_) | Event::Put { .. } | Event::Greater { .. } | Event::Grams { .. });
         self.mark_if(called && step.words != WORDS, Mark::WrongLength);
         let least = match step.event {
-            Event::Line(_) => 64,
-            Event::Read { .. } => 6,
-            Event::Write { .. } => 2,
+            Event::Line(_) => 80,
+            Event::Read { .. } => 8,
+            Event::Write { .. } | Event::Grams { .. } => 2,
             _ => 0,
         };
-        self.mark_if(step.room < least, Mark::LittleRoom);
+        if step.room < least {
+            self.mark(Mark::LittleRoom);
+            self.events += 1;
+            return;
+        }
+        let done = self.answer(step, outcome);
         if done && called && step.words == WORDS {
             self.book(&before[..WORDS]);
         }
@@ -143,6 +168,7 @@ impl Tally {
             Event::Lay(_) => self.mark_if(outcome.number == 1, Mark::Laid),
             Event::Put { .. } => self.mark(if outcome.number == 1 { Mark::StillFit } else { Mark::Unfit }),
             Event::Greater { .. } => self.mark(if outcome.number == 1 { Mark::SecondGreater } else { Mark::FirstKept }),
+            Event::Grams { .. } => self.mark(if outcome.number == 0 { Mark::Weighed } else { Mark::NotWeighed }),
             Event::Line(text) => self.line(text),
             Event::Read { crew, bearing } if done => {
                 let (crew, bearing) = (*crew as usize, *bearing as usize);
@@ -155,8 +181,10 @@ impl Tally {
                 self.mark_if(!unwritten && after[stored(depot, bearing) + VALUE] > LAST_DAY, Mark::LateRead);
                 self.shelf(n, before, after, depot, bearing % n.shelves);
             }
-            Event::Write { crew, bearing, value } if done => {
+            Event::Write { crew, bearing, value, card } if done => {
                 self.mark_if(*value == LAST_DAY, Mark::LastDay);
+                self.mark_if(card.contains(&0x44FA_0000), Mark::CardMost);
+                self.mark_if(card.iter().any(|&length| length < 0x0080_0000), Mark::CardLeast);
                 let (crew, bearing) = (*crew as usize, *bearing as usize);
                 let depot = before[home(crew)] as usize;
                 let shelf = bearing % n.shelves;
@@ -169,13 +197,17 @@ impl Tally {
                 self.shelf(n, before, after, depot, shelf);
             }
             Event::Tick { depot, shelf } if done => self.sent(n, before, after, *depot as usize, *shelf as usize),
-            Event::Write { value, .. } if *value > LAST_DAY && outcome.number < 8 => {
-                self.mark_if(outcome.number > 1, Mark::LateNumber);
+            Event::Write { value, card, .. } if outcome.number < 8 => {
+                let (late, none) = (*value > LAST_DAY, !straight::is_card(card[0], card[1]));
                 let part = || step.words == WORDS && straight::counts_and_homes(&before[..WORDS]);
-                self.mark_if(outcome.number == 1 && part(), Mark::LatePart);
+                self.mark_if(late && outcome.number > 1, Mark::LateNumber);
+                self.mark_if(late && outcome.number == 1 && part(), Mark::LatePart);
+                self.mark_if(none && outcome.number > 1, Mark::CardNumber);
+                self.mark_if(none && outcome.number == 1 && part(), Mark::CardPart);
             }
-            Event::Write { crew, bearing, value } if outcome.number >= 8 => {
+            Event::Write { crew, bearing, value, card } if outcome.number >= 8 => {
                 self.mark_if(*value == LAST_DAY + 1, Mark::DayAfter);
+                self.no_card(*card, outcome.number);
                 let depot = before[home(*crew as usize)] as usize;
                 let waits = before[crew_vector(*crew as usize) + depot] > before[clock(depot, *bearing as usize % n.shelves)];
                 self.not_sent(n, before, depot, *bearing as usize % n.shelves, waits, outcome.number);
@@ -199,7 +231,31 @@ impl Tally {
                 self.mark_if(less, Mark::NotLowered);
                 self.shelf(n, before, after, depot, shelf);
             }
+            Event::Move { crew, depot } if done || outcome.number == 12 => {
+                self.moved(n, before, *crew as usize, *depot as usize, done);
+            }
             _ => {}
+        }
+    }
+
+    /// What stands at the new home of a crew that may move, or may not yet.
+    fn moved(&mut self, n: Counts, book: &[u32], crew: usize, depot: usize, done: bool) {
+        let present = book[home(crew)] as usize;
+        let entry = |x: usize| book[crew_vector(crew) + x];
+        let behind = |shelf: usize, x: usize| x != depot && entry(x) > book[seen(depot, shelf, x)];
+        let shelf_behind = |shelf: usize| (0..n.depots).any(|x| behind(shelf, x));
+        let depot_behind = |x: usize| (0..n.shelves).any(|shelf| behind(shelf, x));
+        if !done {
+            self.mark_if(!(0..n.shelves).all(shelf_behind), Mark::OneBehind);
+            self.mark_if((0..n.depots).any(|x| x != present && depot_behind(x)), Mark::OtherBehind);
+        } else if present == depot {
+            self.mark(Mark::ToPresent);
+            self.mark_if((0..n.shelves).any(shelf_behind), Mark::PresentBehind);
+        } else {
+            self.mark(Mark::Moved);
+            self.mark_if((0..n.depots).any(|x| x != depot && entry(x) > 0), Mark::MovedFar);
+            let above = |shelf: usize| (0..n.depots).all(|x| entry(depot) > book[seen(depot, shelf, x)]);
+            self.mark_if((0..n.shelves).all(above), Mark::OwnAbove);
         }
     }
 
@@ -213,12 +269,13 @@ impl Tally {
             Event::Take { .. } => 4,
             Event::Refresh { .. } => 5,
             Event::Line(_) => 6,
+            Event::Move { .. } => 7,
             _ => {
                 self.events += 1;
                 return false;
             }
         };
-        let number = if row < 6 {
+        let number = if row != 6 {
             outcome.number
         } else {
             let first = outcome.bytes[..outcome.number].split(|byte| b" \n".contains(byte)).next().unwrap_or(b"");
@@ -229,12 +286,13 @@ impl Tally {
         };
         self.answers[row][number] += 1;
         self.mark_if(row == 6 && number == straight::Refusal::BadDate as usize, Mark::LineLate);
+        self.mark_if(row == 6 && number == straight::Refusal::BadCard as usize, Mark::LineCard);
         if number == 13 {
             self.bad_lines += 1;
         } else {
             self.events += 1;
         }
-        number == 0 && row < 6
+        number == 0 && row != 6
     }
 
     /// What a book that is not fit did to a call that met it.
@@ -255,6 +313,7 @@ impl Tally {
         let call = matches!(
             step.event,
             Event::Read { .. } | Event::Write { .. } | Event::Tick { .. } | Event::Take { .. } | Event::Refresh { .. }
+                | Event::Move { .. }
         );
         if call && !self.fit {
             let by_part = outcome.number == 1 && straight::counts_and_homes(&before[..WORDS]);
@@ -303,6 +362,19 @@ impl Tally {
         }
     }
 
+    /// What was wrong with the card of a write that was refused.
+    fn no_card(&mut self, card: [u32; 2], number: usize) {
+        let lengths = [f32::from_bits(card[0]), f32::from_bits(card[1])];
+        self.mark_if(number == straight::Refusal::BadDate as usize && !straight::is_card(card[0], card[1]), Mark::CardAndLate);
+        if number == straight::Refusal::BadCard as usize {
+            self.mark_if(card.contains(&0x44FA_0001), Mark::CardNext);
+            self.mark_if(lengths.contains(&0.0), Mark::CardZero);
+            self.mark_if(lengths.iter().any(|length| length.is_nan()), Mark::CardNan);
+            self.mark_if(lengths.iter().any(|length| length.is_infinite()), Mark::CardInfinite);
+            self.mark_if(straight::is_card(card[0], card[0]), Mark::CardWidth);
+        }
+    }
+
     /// What a write or a tick that was done did to its links.
     fn sent(&mut self, n: Counts, before: &[u32], after: &[u32], depot: usize, shelf: usize) {
         self.mark_if(after[clock(depot, shelf)] == END, Mark::ToEnd);
@@ -317,8 +389,10 @@ impl Tally {
         let full = |link: usize| book[held(link)] == ROOM;
         let reasons = waits as u32 + (book[clock(depot, shelf)] == END) as u32 + links().any(full) as u32;
         let late = number == straight::Refusal::BadDate as usize;
+        let none = number == straight::Refusal::BadCard as usize;
         self.mark_if(late && reasons > 0, Mark::LateAndMore);
-        self.mark_if(reasons + late as u32 > 1, Mark::Several);
+        self.mark_if(none && reasons > 0, Mark::CardAndMore);
+        self.mark_if(reasons + late as u32 + none as u32 > 1, Mark::Several);
         if number == straight::Refusal::LinkFull as usize {
             self.mark_if(links().filter(|&link| full(link)).all(|link| book[taken(link)] > 0), Mark::FullByTaken);
             self.mark_if(links().next().is_some_and(|link| !full(link)), Mark::FullLater);

@@ -4,21 +4,23 @@
 
 use depot_register::{calendar, raw};
 use replay::random::Random;
+use replay::register::NO_ROOM;
 use straight::calendar as straight;
 
 const DAYS: u32 = 146_097;
 /// What stands in `out` before a call.
 const OLD: u32 = 0xDEAD_BEEF;
 
-/// The number and `out` that an answer has to leave, with so much room.
-fn expected(answer: Result<Vec<u32>, straight::NoDate>, room: usize) -> (u32, Vec<u32>) {
+/// The number and `out` that an answer of so many words has to leave, with so much room.
+fn expected(answer: Result<Vec<u32>, straight::NoDate>, words: usize, room: usize) -> (u32, Vec<u32>) {
     let mut out = vec![OLD; room];
+    if room < words {
+        return (NO_ROOM, out);
+    }
     match answer {
         Err(refusal) => (refusal as u32, out),
-        Ok(words) => {
-            if words.len() <= room {
-                out[..words.len()].copy_from_slice(&words);
-            }
+        Ok(told) => {
+            out[..words].copy_from_slice(&told);
             (0, out)
         }
     }
@@ -39,14 +41,14 @@ fn compare_date(year: u32, month: u32, day: u32, room: usize) -> u32 {
     let date = straight::Date { year, month, day };
     assert_eq!(raw::is_date(year, month, day), u32::from(straight::is_date(date)), "{:?}", date);
     let told = found(room, |out| raw::day_number(year, month, day, out));
-    assert_eq!(told, expected(straight::day_number(date).map(|number| vec![number]), room), "{:?}", date);
+    assert_eq!(told, expected(straight::day_number(date).map(|number| vec![number]), 1, room), "{:?}", date);
     told.0
 }
 
 /// Compares a day's date; gives the answer's number.
 fn compare_day(day: u32, room: usize) -> u32 {
     let told = found(room, |out| raw::date_of(day, out));
-    assert_eq!(told, expected(straight::date_of(day).map(words), room), "day {}", day);
+    assert_eq!(told, expected(straight::date_of(day).map(words), 3, room), "day {}", day);
     told.0
 }
 
@@ -55,7 +57,7 @@ fn compare_next(year: u32, month: u32, day: u32, step: u32, n: u32, room: usize)
     let date = straight::Date { year, month, day };
     let answer = straight::next_date(date, step, n).map(|(date, number)| [words(date), vec![number]].concat());
     let told = found(room, |out| raw::next_date(year, month, day, step, n, out));
-    assert_eq!(told, expected(answer, room), "{:?}, step {}, count {}", date, step, n);
+    assert_eq!(told, expected(answer, 4, room), "{:?}, step {}, count {}", date, step, n);
     told.0
 }
 
@@ -106,6 +108,7 @@ fn spread_of_next_dates() {
 fn damaged_numbers_and_any_room() {
     let mut random = Random::new(1);
     let mut counts = [0; 5];
+    let mut short = 0;
     for _ in 0..200_000 {
         let most = if random.percent(80) { 60 } else { 5_000 };
         let mut asked =
@@ -118,9 +121,12 @@ fn damaged_numbers_and_any_room() {
         let room = random.below(7);
         compare_date(year, month, day, room);
         compare_day(random.word() >> random.below(32), room);
-        counts[compare_next(year, month, day, step, n, room) as usize] += 1;
+        match compare_next(year, month, day, step, n, room) {
+            NO_ROOM => short += 1,
+            number => counts[number as usize] += 1,
+        }
     }
-    assert!(counts.iter().all(|&count| count > 500), "an answer is hardly reached: {:?}", counts);
+    assert!(short > 500 && counts.iter().all(|&count| count > 500), "an answer is hardly reached: {:?}", counts);
 }
 
 #[test]

@@ -1,19 +1,23 @@
-//! The six calls. Each checks in the order of the specification's table, then acts; a refusal moves no word.
+//! The calls. Each checks in the order of the specification's table, then acts; a refusal moves no word.
 //!
 //! BAD BOOK comes first in that table, for the length, the counts, the homes and the parts that the call names. A number out
 //! of range names no part, so each call checks its numbers between the two.
 
 use crate::calendar::LAST_DAY;
+use crate::card::is_card;
 use crate::fit::{counts_and_homes, counts_are_fit};
 use crate::layout::*;
 use crate::looks;
 use crate::order::above;
 use crate::Refusal;
 
-/// The answer to a read: the value, if the bearing is written, and its vector; entries past the depots are 0.
+/// The answer to a read: the value, if the bearing is written, the bits of its card's two lengths, 0 if it is not, and its
+/// vector; entries past the depots are 0.
 #[derive(Clone, Copy, Debug, PartialEq, Eq)]
 pub struct Reading {
     pub value: Option<u32>,
+    pub diameter: u32,
+    pub width: u32,
     pub vector: [u32; 4],
 }
 
@@ -58,18 +62,23 @@ pub fn read(book: &mut [u32], crew: u32, bearing: u32) -> Result<Reading, Refusa
         let entry = &mut book[crew_vector(crew) + x];
         *entry = vector[x].max(*entry);
     }
-    let written = vector != [0; 4];
-    Ok(Reading { value: if written { Some(book[record + VALUE]) } else { None }, vector })
+    if vector == [0; 4] {
+        return Ok(Reading { value: None, diameter: 0, width: 0, vector });
+    }
+    Ok(Reading { value: Some(book[record + VALUE]), diameter: book[record + DIAMETER], width: book[record + WIDTH], vector })
 }
 
-/// A crew writes a bearing's value, a day of the calendar, at its home depot.
-pub fn write(book: &mut [u32], crew: u32, bearing: u32, value: u32) -> Result<Written, Refusal> {
+/// A crew writes a bearing's value, a day of the calendar, and its card, as the bits of two lengths, at its home depot.
+pub fn write(book: &mut [u32], crew: u32, bearing: u32, value: u32, diameter: u32, width: u32) -> Result<Written, Refusal> {
     let n = counts(book)?;
     let crew = below(crew, n.crews, Refusal::BadCrew)?;
     let bearing = below(bearing, n.bearings, Refusal::BadKey)?;
     fit(looks::write(book, n, crew, bearing))?;
     if value > LAST_DAY {
         return Err(Refusal::BadDate);
+    }
+    if !is_card(diameter, width) {
+        return Err(Refusal::BadCard);
     }
     let depot = book[home(crew)] as usize;
     let shelf = bearing % n.shelves;
@@ -84,6 +93,8 @@ pub fn write(book: &mut [u32], crew: u32, bearing: u32, value: u32) -> Result<Wr
     let mut version = [0; RECORD];
     version[BEARING] = bearing as u32;
     version[VALUE] = value;
+    version[DIAMETER] = diameter;
+    version[WIDTH] = width;
     version[ORIGIN] = depot as u32;
     version[VECTOR..].copy_from_slice(&mine);
     version[VECTOR + depot] = stamp;
@@ -154,14 +165,51 @@ pub fn refresh(book: &mut [u32], depot: u32, shelf: u32) -> Result<(), Refusal> 
     let shelf = below(shelf, n.shelves, Refusal::BadShelf)?;
     fit(looks::refresh(book, n, depot, shelf))?;
 
-    let mut lowest = [END; 4];
-    for from in 0..n.depots {
-        for any in 0..n.shelves {
-            lowest[from] = lowest[from].min(book[seen(depot, any, from)]);
-        }
-    }
+    let lowest = lowest_seen(book, n, depot);
     raise_and_show(book, n, depot, shelf, lowest);
     Ok(())
+}
+
+/// A crew gets a new home. NOT HERE YET if that is another depot and some shelf there has not yet seen all that the crew has
+/// heard of the depots other than it.
+pub fn move_crew(book: &mut [u32], crew: u32, depot: u32) -> Result<(), Refusal> {
+    let n = counts(book)?;
+    let crew = below(crew, n.crews, Refusal::BadCrew)?;
+    let depot = below(depot, n.depots, Refusal::BadDepot)?;
+    fit(looks::move_crew(book, n, crew, depot))?;
+    if book[home(crew)] as usize == depot {
+        return Ok(());
+    }
+    let lowest = lowest_seen(book, n, depot);
+    for x in (0..n.depots).filter(|&x| x != depot) {
+        if book[crew_vector(crew) + x] > lowest[x] {
+            return Err(Refusal::NotHereYet);
+        }
+    }
+    book[home(crew)] = depot as u32;
+    Ok(())
+}
+
+/// Which depots now store a depot's present version of a bearing or a greater one: a bit for each depot, and how many bits
+/// are set. One with the same vector and origin is neither below nor above, and counts as that version. If the asked depot's
+/// is unwritten, all depots have it.
+pub fn who_has(book: &[u32], depot: u32, bearing: u32) -> Result<(u32, u32), Refusal> {
+    let n = counts(book)?;
+    let depot = below(depot, n.depots, Refusal::BadDepot)?;
+    let bearing = below(bearing, n.bearings, Refusal::BadKey)?;
+    fit(looks::who_has(book, n, bearing))?;
+
+    let asked = &book[stored(depot, bearing)..][..RECORD];
+    let mut mask = 0;
+    let mut count = 0;
+    for any in 0..n.depots {
+        let there = &book[stored(any, bearing)..][..RECORD];
+        if !above(asked, there, n.depots) {
+            mask |= 1 << any;
+            count += 1;
+        }
+    }
+    Ok((mask, count))
 }
 
 /// The counts of a book whose length, counts and homes are fit.
@@ -193,6 +241,17 @@ pub fn vector(book: &[u32], n: Counts, at: usize) -> [u32; 4] {
     let mut entries = [0; 4];
     entries[..n.depots].copy_from_slice(&book[at..at + n.depots]);
     entries
+}
+
+/// The lowest stamp that any shelf of a depot has seen from each depot; what it says of the depot itself means nothing.
+fn lowest_seen(book: &[u32], n: Counts, depot: usize) -> [u32; 4] {
+    let mut lowest = [END; 4];
+    for from in 0..n.depots {
+        for shelf in 0..n.shelves {
+            lowest[from] = lowest[from].min(book[seen(depot, shelf, from)]);
+        }
+    }
+    lowest
 }
 
 /// The other depots' entries of the stable vector rise to what is offered; then each incoming link is shown, from depot 0 on.

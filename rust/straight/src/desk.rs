@@ -1,7 +1,8 @@
 //! The desk: a line in, a line out.
 
+use crate::calls::{self, Reading};
 use crate::layout::{Counts, WORDS};
-use crate::{calls, Refusal};
+use crate::Refusal;
 
 /// The bytes a line may have, its line feed not counted.
 pub const LONGEST_LINE: usize = 120;
@@ -37,18 +38,26 @@ fn call(book: &mut [u32], text: &[u8]) -> Result<String, Refusal> {
         (b'S', [depots, shelves, bearings, crews, homes @ ..]) if homes.len() <= 16 => {
             calls::setup(book, *depots, *shelves, *bearings, *crews, homes).map(|()| nothing)
         }
-        (b'R', [crew, bearing]) => calls::read(book, *crew, *bearing).map(|reading| {
-            let value = reading.value.map_or("-".to_string(), |value| value.to_string());
-            let entries = &reading.vector[..Counts::of(book).depots];
-            entries.iter().fold(format!(" {}", value), |text, entry| format!("{} {}", text, entry))
-        }),
-        (b'W', [crew, bearing, value]) => calls::write(book, *crew, *bearing, *value)
+        (b'R', [crew, bearing]) => calls::read(book, *crew, *bearing).map(|reading| told(&reading, Counts::of(book).depots)),
+        (b'W', [crew, bearing, value, diameter, width]) => calls::write(book, *crew, *bearing, *value, *diameter, *width)
             .map(|written| format!(" {} {}", written.stamp, if written.current { "C" } else { "S" })),
         (b'K', [depot, shelf]) => calls::tick(book, *depot, *shelf).map(|()| nothing),
         (b'T', [depot, shelf, from]) => calls::take(book, *depot, *shelf, *from).map(|()| nothing),
         (b'F', [depot, shelf]) => calls::refresh(book, *depot, *shelf).map(|()| nothing),
         _ => Err(Refusal::BadLine),
     }
+}
+
+/// A read's answer: the value and the card, or - if the bearing is unwritten; then the entries, one for each depot.
+fn told(reading: &Reading, depots: usize) -> String {
+    let mut text = match reading.value {
+        Some(value) => format!(" {} {} {}", value, reading.diameter, reading.width),
+        None => " -".to_string(),
+    };
+    for entry in &reading.vector[..depots] {
+        text += &format!(" {}", entry);
+    }
+    text
 }
 
 /// The first byte of a line and its numbers, each after one space.

@@ -1,5 +1,6 @@
 //! What is fit, part by part, as `docs/LAYOUT.md` lists the parts. The whole book is fit if every part is.
 
+use crate::card::is_card;
 use crate::layout::*;
 
 /// Whether a book is fit. One of all zeros is not.
@@ -60,12 +61,14 @@ fn links_are_fit(book: &[u32], n: Counts, shelf: usize) -> bool {
 
 /// A link's head and its messages.
 pub(crate) fn link_is_fit(book: &[u32], n: Counts, shelf: usize, from: usize, to: usize) -> bool {
-    if !head_is_fit(book, shelf, from, to) {
-        return false;
-    }
+    head_is_fit(book, shelf, from, to) && messages_are_fit(book, n, shelf, from, to, 0)
+}
+
+/// The messages, from place `first` on, of a link whose head is fit.
+pub(crate) fn messages_are_fit(book: &[u32], n: Counts, shelf: usize, from: usize, to: usize, first: usize) -> bool {
     let link = link(shelf, from, to);
     let (held, taken) = (book[held(link)] as usize, book[taken(link)] as usize);
-    (0..held).all(|place| {
+    (first..held).all(|place| {
         let message = &book[slot(link, place)..][..SLOT];
         match message[0] {
             COPY => copy_is_fit(&message[1..], n, shelf, from),
@@ -89,6 +92,7 @@ fn copy_is_fit(record: &[u32], n: Counts, shelf: usize, from: usize) -> bool {
         && bearing % n.shelves == shelf
         && entries_are_fit(record, n, VECTOR)
         && record[VECTOR + from] > 0
+        && is_card(record[DIAMETER], record[WIDTH])
 }
 
 pub(crate) fn stored_is_fit(book: &[u32], n: Counts, depot: usize, bearing: usize) -> bool {
@@ -99,7 +103,8 @@ pub(crate) fn stored_is_fit(book: &[u32], n: Counts, depot: usize, bearing: usiz
         || (record[BEARING] as usize == bearing
             && origin < n.depots
             && entries_are_fit(record, n, VECTOR)
-            && record[VECTOR + origin] > 0)
+            && record[VECTOR + origin] > 0
+            && is_card(record[DIAMETER], record[WIDTH]))
 }
 
 /// Whether the vector that starts at `at` is in range.

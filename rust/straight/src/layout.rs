@@ -16,6 +16,8 @@ pub const MOST_CREWS: u32 = 16;
 pub const RECORD: usize = 9;
 pub const BEARING: usize = 0;
 pub const VALUE: usize = 1;
+pub const DIAMETER: usize = 2;
+pub const WIDTH: usize = 3;
 pub const ORIGIN: usize = 4;
 pub const VECTOR: usize = 5;
 

@@ -11,19 +11,22 @@
 //!
 //! let mut book = vec![0; WORDS];
 //! setup(&mut book, 2, 2, 4, 2, &[0, 1]).unwrap();
-//! assert_eq!(write(&mut book, 0, 0, 20), Ok(Written { stamp: 1, current: true }));
-//! assert_eq!(read(&mut book, 0, 0), Ok(Reading { value: Some(20), vector: [1, 0, 0, 0] }));
+//! let (diameter, width) = (52.0_f32.to_bits(), 15.0_f32.to_bits());
+//! assert_eq!(write(&mut book, 0, 0, 20, diameter, width), Ok(Written { stamp: 1, current: true }));
+//! assert_eq!(read(&mut book, 0, 0), Ok(Reading { value: Some(20), diameter, width, vector: [1, 0, 0, 0] }));
 //! ```
 
 pub mod calendar;
 mod calls;
+mod card;
 mod desk;
 mod fit;
 pub mod layout;
 mod looks;
 mod order;
 
-pub use calls::{below, read, refresh, setup, take, tick, vector, write, Reading, Written};
+pub use calls::{below, move_crew, read, refresh, setup, take, tick, vector, who_has, write, Reading, Written};
+pub use card::{grams, is_card};
 pub use desk::{desk, line, LONGEST_LINE};
 pub use fit::{counts_and_homes, is_fit};
 pub use layout::{Counts, WORDS};
@@ -43,6 +46,8 @@ pub enum Refusal {
     LinkFull = 9,
     ClockAtEnd = 10,
     BadCounts = 11,
+    NotHereYet = 12,
     BadLine = 13,
+    BadCard = 14,
     BadDate = 16,
 }

@@ -9,9 +9,11 @@ pub fn tick(book: &[u32], n: Counts, depot: usize, shelf: usize) -> bool {
     clock_is_fit(book, depot, shelf) && (0..n.depots).all(|to| to == depot || head_is_fit(book, shelf, depot, to))
 }
 
-/// The stamp seen from the sender; the link from there, head and messages.
+/// The stamp seen from the sender; the head of the link from there, and of its messages the untaken ones.
 pub fn take(book: &[u32], n: Counts, depot: usize, shelf: usize, from: usize) -> bool {
-    seen_is_fit(book, depot, shelf, from) && link_is_fit(book, n, shelf, from, depot)
+    seen_is_fit(book, depot, shelf, from)
+        && head_is_fit(book, shelf, from, depot)
+        && messages_are_fit(book, n, shelf, from, depot, book[taken(link(shelf, from, depot))] as usize)
 }
 
 /// The stamps seen on all shelves of the depot; what raise and show touches.
@@ -31,6 +33,16 @@ pub fn read(book: &[u32], n: Counts, crew: usize, bearing: usize) -> bool {
 pub fn write(book: &[u32], n: Counts, crew: usize, bearing: usize) -> bool {
     let depot = book[home(crew)] as usize;
     read(book, n, crew, bearing) && tick(book, n, depot, bearing % n.shelves)
+}
+
+/// The stored versions of the bearing at every depot.
+pub fn who_has(book: &[u32], n: Counts, bearing: usize) -> bool {
+    (0..n.depots).all(|depot| stored_is_fit(book, n, depot, bearing))
+}
+
+/// The crew's vector; the stamps seen on all shelves of the new home.
+pub fn move_crew(book: &[u32], n: Counts, crew: usize, depot: usize) -> bool {
+    crew_vector_is_fit(book, n, crew) && (0..n.shelves).all(|shelf| seen_are_fit(book, n, depot, shelf))
 }
 
 /// The stable vector; each link in, head and messages; the stored version of the bearing of each taken copy on them.

@@ -2,12 +2,46 @@
 
 use straight::calendar::LAST_DAY;
 use straight::layout::{clock, crew_vector, held, link, slot, stable, stored, COPY, END, VALUE, VECTOR};
-use straight::{desk, is_fit, layout, line, read, refresh, setup, take, tick, write, Reading, Refusal, Written, WORDS};
+use straight::{desk, is_fit, layout, line, read, refresh, setup, take, tick, Reading, Refusal, Written, WORDS};
 
-const LISTING: &str = "S 2 2 4 2 0 1\nR 0 0\nW 0 0 20\nW 0 1 30\nK 0 1\nW 0 1 30\nT 1 0 0\nF 1 0\nR 1 0\nT 1 1 0\nF 1 0\nR 1 0\n";
-const ANSWERS: &str = "0\n0 - 0 0\n0 1 C\n8\n0\n0 2 C\n0\n0\n0 - 0 0\n0\n0\n0 20 1 0\n";
+/// The listing and its answers, in the form that they have since versions carry cards.
+const LISTING: &str = "\
+S 2 2 4 2 0 1
+R 0 0
+W 0 0 20 1065353216 1065353216
+W 0 1 30 1065353216 1065353216
+K 0 1
+W 0 1 30 1065353216 1065353216
+T 1 0 0
+F 1 0
+R 1 0
+T 1 1 0
+F 1 0
+R 1 0
+";
+const ANSWERS: &str = "\
+0
+0 - 0 0
+0 1 C
+8
+0
+0 2 C
+0
+0
+0 - 0 0
+0
+0
+0 20 1065353216 1065353216 1 0
+";
 
 const DONE: Result<(), Refusal> = Ok(());
+
+/// The bits of 1 millimetre, both lengths of every card here.
+const ONE: u32 = 1_065_353_216;
+
+fn write(book: &mut [u32], crew: u32, bearing: u32, value: u32) -> Result<Written, Refusal> {
+    straight::write(book, crew, bearing, value, ONE, ONE)
+}
 
 fn fresh() -> Vec<u32> {
     let mut book = vec![0; WORDS];
@@ -26,7 +60,7 @@ fn after(lines: usize) -> Vec<u32> {
 }
 
 fn reads(value: u32, vector: [u32; 4]) -> Result<Reading, Refusal> {
-    Ok(Reading { value: Some(value), vector })
+    Ok(Reading { value: Some(value), diameter: ONE, width: ONE, vector })
 }
 
 /// Takes until every link is empty, a refresh of every shelf, a tick of every shelf.
@@ -69,7 +103,7 @@ fn case_a_hidden() {
     let mut book = after(12);
     assert_eq!(take(&mut book, 1, 1, 0), DONE);
     assert_eq!(refresh(&mut book, 1, 1), DONE);
-    assert_eq!(read(&mut book, 1, 1), Ok(Reading { value: None, vector: [0; 4] }));
+    assert_eq!(read(&mut book, 1, 1), Ok(Reading { value: None, diameter: 0, width: 0, vector: [0; 4] }));
 }
 
 #[test]
@@ -151,7 +185,7 @@ fn dates_beyond_the_calendar() {
     }
 }
 
-/// The order of a write's checks: 1, 5, 4, 16, 8, 10, 9.
+/// The order of a write's checks: 1, 5, 4, 16, 14, 8, 10, 9. BAD CARD has its own test.
 #[test]
 fn bad_date_in_its_place() {
     let late = LAST_DAY + 1;
@@ -187,7 +221,7 @@ fn late_dates_of_old_books() {
         book[stored(0, 0) + VALUE] = late;
         book[copy + 1 + VALUE] = late;
         assert!(is_fit(&book));
-        assert_eq!(line(&mut book, b"R 0 0"), format!("0 {} 1 0\n", late));
+        assert_eq!(line(&mut book, b"R 0 0"), format!("0 {} 1065353216 1065353216 1 0\n", late));
         assert_eq!(tick(&mut book, 0, 1), DONE);
         round(&mut book, 2, 2);
         assert!(is_fit(&book));
@@ -236,6 +270,8 @@ fn the_order() {
     assert!(above(&version(1, [1, 1, 0, 0]), &version(0, [1, 1, 0, 0])), "then the higher origin");
     assert!(!above(&version(1, [1, 1, 0, 0]), &version(1, [1, 1, 9, 9])), "words past the depots count for nothing");
     assert!(!above(&version(1, [0, 0, 7, 7]), &version(0, [0; 4])), "unwritten is above nothing");
+    let card = |diameter, width| [0, 9, diameter, width, 1, 1, 1, 0, 0];
+    assert!(!above(&card(2, 2), &card(1, 1)) && !above(&card(1, 1), &card(2, 2)), "the card counts for nothing");
     assert!(above(&version(0, [1, 0, 0, 0]), &[9; 8]), "the wrong length counts as unwritten");
     let (a, b) = (version(0, [1, 0, 0, 0]), version(0, [1, 0, 0, 0]));
     assert!(std::ptr::eq(straight::greater(&a, &b, 2), &a[..]), "the first if neither is greater");
@@ -255,17 +291,19 @@ fn lines_that_are_bad() {
     };
     assert_eq!(answer(&long(120)), "2\n");
     assert_eq!(answer(&long(121)), "13\n");
-    for good in ["R 0 0", "W 0 0 146096", "K 0 0", "F 1 1", "S 1 1 1 1 0"] {
+    for good in ["R 0 0", "W 0 0 146096 1065353216 1", "K 0 0", "F 1 1", "S 1 1 1 1 0"] {
         assert!(answer(good).starts_with('0'), "{}", good);
     }
-    assert_eq!(answer("W 0 0 146097"), "16\n");
-    assert_eq!(answer("W 0 0 4294967295"), "16\n", "a number in the right form");
+    assert_eq!(answer("W 0 0 146097 1 1"), "16\n");
+    assert_eq!(answer("W 0 0 4294967295 0 0"), "16\n", "a number in the right form");
+    assert_eq!(answer("W 0 0 20 4294967295 1"), "14\n", "and so is this");
     assert_eq!(answer("S 1 1 1 0"), "11\n");
     assert_eq!(answer(&format!("S 4 4 160 17{}", " 0".repeat(16))), "11\n", "20 numbers");
     let bad = [
         "", " ", "R", "R ", "R 0", "R 0 ", "R 0 0 ", "R 0 0 0", " R 0 0", "R  0 0", "R 0  0", "R 00 0", "R 01 0", "R -1 0",
-        "R +1 0", "R 0 0\r", "r 0 0", "RR 0 0", "R0 0", "W 0 0 4294967296", "W 0 0 9999999999", "W 0 0 00000000001", "W 0 0",
-        "S 1 1 1", "R\t0 0", "X 0 0", "R 0 \u{0660}", "L 0 0", "S",
+        "R +1 0", "R 0 0\r", "r 0 0", "RR 0 0", "R0 0", "W 0 0 4294967296 1 1", "W 0 0 9999999999 1 1", "W 0 0 00000000001 1 1",
+        "W 0 0 1 4294967296 1", "W 0 0 1 1 01", "W 0 0", "W 0 0 1", "W 0 0 1 1", "W 0 0 1 1 1 1", "W 0 0 1 1.0 1", "S 1 1 1",
+        "R\t0 0", "X 0 0", "R 0 \u{0660}", "L 0 0", "S",
     ];
     for text in bad {
         assert_eq!(answer(text), "13\n", "{:?}", text);

@@ -2,10 +2,17 @@
 
 use straight::calendar::LAST_DAY;
 use straight::layout::*;
-use straight::{is_fit, read, refresh, setup, take, tick, write, Refusal, WORDS};
+use straight::{is_fit, read, refresh, setup, take, tick, Refusal, Written, WORDS};
 
 /// No word of a book can be this, but a value or an unused one.
 const UNFIT: u32 = u32::MAX;
+
+/// The bits of 1 millimetre, both lengths of every card here.
+const ONE: u32 = 1_065_353_216;
+
+fn write(book: &mut [u32], crew: u32, bearing: u32, value: u32) -> Result<Written, Refusal> {
+    straight::write(book, crew, bearing, value, ONE, ONE)
+}
 
 type Call = fn(&mut [u32]) -> Result<(), Refusal>;
 
@@ -103,7 +110,10 @@ fn links() {
     }
     assert_eq!(bad_for(held(link(1, 0, 1)), UNFIT), "", "the link of the other shelf");
     assert_eq!(bad_for(held(link(0, 1, 1)), UNFIT), "", "the link of a depot to itself");
-    for place in 0..3 {
+    assert_eq!(bad_for(slot(from_0, 0), 3), "read write refresh", "a taken copy is no part of a take");
+    assert_eq!(bad_for(slot(from_0, 0) + 1 + BEARING, 5), "read write refresh", "nor is its bearing");
+    assert_eq!(bad_for(slot(from_0, 0) + 1 + VECTOR, UNFIT), "read write refresh", "nor its vector");
+    for place in 1..3 {
         assert_eq!(bad_for(slot(from_0, place), 3), "read write take refresh");
     }
     assert_eq!(bad_for(slot(to_0, 0), 3), "", "a message on a link out");
@@ -113,11 +123,53 @@ fn links() {
     assert_eq!(bad_for(slot(link(0, 2, 0), 0), 3), "");
 }
 
+/// Of a link's messages a take looks at the untaken ones alone, whether it takes a copy or a heartbeat, or finds none.
+#[test]
+fn a_take_leaves_taken_copies_alone() {
+    let link = link(0, 0, 1);
+    let mut book = busy();
+    let whole = slot(link, 0)..slot(link, 1);
+    book[whole.clone()].fill(UNFIT);
+    assert_eq!(TAKE(&mut book), Ok(()), "a copy");
+    assert_eq!(book[held(link)..][..2], [3, 2]);
+    book[slot(link, 1)..slot(link, 2)].fill(UNFIT);
+    assert_eq!(TAKE(&mut book), Ok(()), "a heartbeat");
+    assert_eq!(book[held(link)..][..2], [2, 2]);
+    assert_eq!(book[seen(1, 0, 0)], 4);
+    assert_eq!(TAKE(&mut book), Err(Refusal::EmptyLink), "and not BAD BOOK");
+    assert!(book[whole].iter().all(|&word| word == UNFIT), "and they stay as they are");
+    assert!(book[slot(link, 2)..slot(link, 3)].iter().all(|&word| word == 0));
+    assert_eq!(REFRESH(&mut book), Err(Refusal::BadBook), "a refresh looks at them");
+
+    let mut book = busy();
+    book[slot(link, 2)] = COPY;
+    assert_eq!(TAKE(&mut book), Err(Refusal::BadBook), "an untaken message behind the first");
+    let mut book = busy();
+    book[taken(link)] = 3;
+    assert_eq!(TAKE(&mut book), Err(Refusal::EmptyLink), "a taken heartbeat is none of the untaken");
+}
+
 #[test]
 fn stored_versions() {
     for (bearing, calls) in [(0, "read write refresh"), (1, ""), (2, "read write"), (4, "")] {
         assert_eq!(bad_for(stored(1, bearing) + VECTOR + 1, UNFIT), calls, "bearing {} at depot 1", bearing);
         assert_eq!(bad_for(stored(2, bearing) + VECTOR + 1, UNFIT), "", "bearing {} at depot 2", bearing);
+    }
+}
+
+/// The card of a message or a stored version is a part of it; an unwritten record has none.
+#[test]
+fn cards() {
+    let from_0 = link(0, 0, 1);
+    for at in [DIAMETER, WIDTH] {
+        for word in [0, UNFIT] {
+            assert_eq!(bad_for(slot(from_0, 0) + 1 + at, word), "read write refresh", "a taken copy");
+            assert_eq!(bad_for(slot(from_0, 1) + 1 + at, word), "read write take refresh", "an untaken copy");
+            assert_eq!(bad_for(slot(link(0, 1, 0), 0) + 1 + at, word), "", "a message on a link out");
+            assert_eq!(bad_for(stored(1, 2) + at, word), "read write", "bearing 2 at depot 1, written");
+            assert_eq!(bad_for(stored(1, 0) + at, word), "", "bearing 0 at depot 1, unwritten");
+            assert_eq!(bad_for(stored(0, 0) + at, word), "", "bearing 0 at depot 0, written");
+        }
     }
 }
 
@@ -132,6 +184,7 @@ fn a_number_out_of_range_names_no_part() {
     assert_eq!(write(&mut book, 3, 6, 0).map(|_| ()), Err(Refusal::BadCrew));
     assert_eq!(write(&mut book, 0, 6, 0).map(|_| ()), Err(Refusal::BadKey));
     assert_eq!(write(&mut book, 0, 6, u32::MAX).map(|_| ()), Err(Refusal::BadKey));
+    assert_eq!(straight::write(&mut book, 0, 6, 0, 0, 0).map(|_| ()), Err(Refusal::BadKey));
     assert_eq!(tick(&mut book, 3, 2), Err(Refusal::BadDepot));
     assert_eq!(tick(&mut book, 0, 2), Err(Refusal::BadShelf));
     assert_eq!(take(&mut book, 0, 2, 3), Err(Refusal::BadDepot));
@@ -159,6 +212,7 @@ fn bad_book_goes_before_the_refusals_of_a_state() {
     book[stored(1, 0) + VECTOR] = UNFIT;
     assert_eq!(WRITE(&mut book), Err(Refusal::BadBook), "and not WAIT");
     assert_eq!(write(&mut book, 1, 2, LAST_DAY + 1).map(|_| ()), Err(Refusal::BadBook), "and not BAD DATE");
+    assert_eq!(straight::write(&mut book, 1, 2, 0, 0, 0).map(|_| ()), Err(Refusal::BadBook), "and not BAD CARD");
     let mut book = busy();
     book[seen(0, 1, 1)] = UNFIT;
     assert_eq!(take(&mut book, 0, 1, 1), Err(Refusal::BadBook), "and not EMPTY LINK");

@@ -13,9 +13,9 @@ use Rattle.loops.proofs.BoolLaws.{test-passed, test-failed, not-passed}
 use Rattle.book.specs.Words.{put}
 use Rattle.book.specs.declared.parts.Counts.{Counts}
 use Rattle.book.specs.Layout.{countsOf, linkOf, held, taken}
-use Rattle.fit.specs.Fit.{Within, linkFit}
-use Rattle.versions.proofs.MessageLaws.{link-head}
-use Rattle.named.proofs.NamedLaws.{Based, base-open}
+use Rattle.fit.specs.Fit.{Within}
+use Rattle.named.specs.Named.{waitingFit}
+use Rattle.named.proofs.NamedLaws.{Based, base-open, waiting-room}
 use Rattle.paper.specs.Answers.{numberOf}
 use Rattle.paper.specs.declared.answer.Refusal.the-variants.{SameDepot, BadBook, EmptyLink}
 use Rattle.frame.specs.declared.FrameRefusal.the-variants.{Link, NoRoom, BadCount}
@@ -40,12 +40,12 @@ small c =
     let w = base start in
     omega (arith, c .between .ensures, start .pre .1, start .pre .2, start .pre .3, w .within .depots, w .within .shelves)
 
-link-said : (c : tie.After-link-fits) → let args = c .before .before .before .before .before .before .before .before .args in c .link-fits .result ≡ linkFit (countsOf (now (args .book))) (now (args .book)) (args .s .0) (args .from .0) (linkOf (args .s .0) (args .from .0) (args .d .0))
+link-said : (c : tie.After-waiting-fits) → let args = c .before .before .before .before .before .before .before .before .args in c .waiting-fits .result ≡ waitingFit (countsOf (now (args .book))) (now (args .book)) (args .s .0) (args .from .0) (linkOf (args .s .0) (args .from .0) (args .d .0))
 link-said c =
     let args = c .before .before .before .before .before .before .before .before .args in
-    c .link-fits .ensures ∙ ap₂ (λ (n : Counts) (q : ℕ). linkFit n (now (args .book)) (args .s .0) (args .from .0) q) (c .before .before .counts-of .ensures) (c .before .between .ensures)
+    c .waiting-fits .ensures ∙ ap₂ (λ (n : Counts) (q : ℕ). waitingFit n (now (args .book)) (args .s .0) (args .from .0) q) (c .before .before .counts-of .ensures) (c .before .between .ensures)
 
-fits : (c : tie.Else2) → let args = c .before .before .before .before .before .before .before .before .before .args in linkFit (countsOf (now (args .book))) (now (args .book)) (args .s .0) (args .from .0) (linkOf (args .s .0) (args .from .0) (args .d .0)) ≡ true
+fits : (c : tie.Else2) → let args = c .before .before .before .before .before .before .before .before .before .args in waitingFit (countsOf (now (args .book))) (now (args .book)) (args .s .0) (args .from .0) (linkOf (args .s .0) (args .from .0) (args .d .0)) ≡ true
 fits c = test-passed (link-said (c .before)) (c .if2 .left)
 
 -- the link's head
@@ -81,8 +81,8 @@ within : (c : tie.Else4) → c .before .before .before .before .taken-of .result
 within c =
     let args = c .before .before .before .before .before .before .before .before .before .before .before .before .before .before .before .args in
     let h = heads (c .before .before .before .before) in
-    let w = link-head (countsOf (now (args .book))) (now (args .book)) (args .s .0) (args .from .0) _ (fits (c .before .before .before .before .before .before)) in
-    omega (arith, h .0, h .1, w .0, w .1, c .before .before .wide .ensures, count-fits _ _ (good-count c))
+    let w = waiting-room (countsOf (now (args .book))) (now (args .book)) (args .s .0) (args .from .0) _ (fits (c .before .before .before .before .before .before)) in
+    omega (arith, h .0, h .1, w, more (c .before .before .before), c .before .before .wide .ensures, count-fits _ _ (good-count c))
 
 size-said :
     (c : tie.After-size-of-frame) →
@@ -108,8 +108,8 @@ between-requires c κs =
     let w = base start in
     (lt-of-lt-of-le (start .pre .3) (w .within .shelves), lt-of-lt-of-le (start .pre .2) (w .within .depots), lt-of-lt-of-le (start .pre .1) (w .within .depots))
 
-link-fits-requires : tie.Need-link-fits-requires
-link-fits-requires c κs =
+waiting-fits-requires : tie.Need-waiting-fits-requires
+waiting-fits-requires c κs =
     let w = base (c .before .before .before .before .before .before .before) in
     let n : Within (c .before .counts-of .result) = subst Within (sym (c .before .counts-of .ensures)) (w .within) in
     (w .full, n .depots, n .shelf, small c)
@@ -185,7 +185,7 @@ write-at-spec =
     returns
     counts-of-requires
     between-requires
-    link-fits-requires
+    waiting-fits-requires
     returns-2
     held-of-requires
     taken-of-requires

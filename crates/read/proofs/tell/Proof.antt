@@ -5,13 +5,13 @@ use mathlib.Core.List.{List}
 use Prim.Native.Nat.{ℕ}
 use denote.Ref.{now}
 use lib.ListN.{take}
-use Rattle.order.specs.Record.{valueOf, vectorOf}
+use Rattle.order.specs.Record.{vectorOf}
 use Rattle.order.specs.Vector.{zeros}
 use Rattle.loops.proofs.BoolLaws.{pick-true, pick-false}
 use Rattle.order.proofs.RecordLaws.{zeros-part}
 use Rattle.paper.specs.Calls.{reads, read-value, read-unwritten}
 use Rattle.paper.specs.Answers.{paperFound, paperRead}
-use Rattle.register.specs.Answers.{cut, told}
+use Rattle.register.specs.Answers.{cut, payloadOf, told}
 use Rattle.register.proofs.HomeLaws.{cut-part}
 use borrow.Author.Needs.{needs}
 use Rattle.read.proofs.tell.Statement.{statement}
@@ -35,12 +35,12 @@ returns c =
 returns-2 : tie.Need-returns-2
 unfolding told paperRead paperFound
 returns-2 c =
-    let at1 = c .before in
+    let at1 = c .before .before .before in
     let zero = at1 .before in
     let vector = vector-said (zero .before .before) in
     let args = zero .before .before .before .before .before .args in
-    let value = valueOf (now (args .version)) in
-    (ap (λ (v : List ℕ). reads (read-value value (take (args .n) v))) vector ∙ ap reads (sym (pick-false _ _ (sym (said zero) ∙ at1 .if1 .left))), (vector, refl))
+    let payload = payloadOf (now (args .version)) in
+    (ap (λ (v : List ℕ). reads (read-value payload (take (args .n) v))) vector ∙ ap reads (sym (pick-false _ _ (sym (said zero) ∙ at1 .if1 .left))), (vector, refl))
 
 pub tell-spec : {M : Type 1} → statement M
 tell-spec =
@@ -55,5 +55,7 @@ tell-spec =
     (λ c. search needs)
     (λ c κs. search needs)
     returns
+    (λ c. search needs)
+    (λ c. search needs)
     (λ c. search needs)
     returns-2)

@@ -1,14 +1,16 @@
 -- `stream::answer_piece` meets its contract: what was written at the start of the buffer is what is said to the piece.
 -- Assumes nothing.
+use native.Mathlib.Omega.{arith}
 use mathlib.Core.Path.{sym}
 use lib.Seq.{length-take-le}
-use Rattle.stream.proofs.StreamLaws.{piece-room, wrote-start}
+use Rattle.line.proofs.PrintLaws.{wrote-start}
+use Rattle.stream.proofs.StreamLaws.{piece-room}
 use borrow.Author.Needs.{needs}
 use Rattle.stream.proofs.answer_piece.Statement.{statement}
 use Rattle.stream.proofs.answer_piece.Tie as tie
 
 slice-aggregate-result : tie.Need-slice-aggregate-result
-slice-aggregate-result c = sym (length-take-le _ _ (piece-room _ _ _ (c .before .before .before .before .before .before .before .before .next-piece .ensures .1 .1) (c .before .before .before .before .before .before .before .before .before .before .before .before .before .before .before .before .pre .1)))
+slice-aggregate-result c = sym (length-take-le _ _ (omega (arith, piece-room _ _ _ (c .before .before .before .before .before .before .before .before .next-piece .ensures .1 .1) (c .before .before .before .before .before .before .before .before .before .before .before .before .before .before .before .before .pre .1))))
 
 returns : tie.Need-returns
 returns c =

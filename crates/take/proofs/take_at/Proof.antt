@@ -11,8 +11,7 @@ use Rattle.book.specs.declared.parts.Counts.{Counts}
 use Rattle.book.specs.Layout.{end, countsOf, seen, linkOf, held, taken}
 use Rattle.fit.specs.Fit.{Within}
 use Rattle.named.specs.Named.{takeParts, takeFit}
-use Rattle.versions.proofs.MessageLaws.{link-head}
-use Rattle.named.proofs.NamedLaws.{Based, base-open}
+use Rattle.named.proofs.NamedLaws.{Based, base-open, waiting-room}
 use Rattle.paper.specs.declared.answer.Refusal.the-variants.{SameDepot, BadBook, EmptyLink}
 use Rattle.paper.specs.Answers.{numberOf, paper}
 use Rattle.register.specs.Calls.{takeBook}
@@ -129,8 +128,8 @@ take-one-requires c κs =
       lt-of-lt-of-le (pre .3) (w .within .shelves),
       lt-of-lt-of-le (pre .2) (w .within .depots),
       omega (arith, at3 .if3 .left, numbers .0, numbers .1),
-      link-head (countsOf (now (args .book))) (now (args .book)) (args .s .0) (args .from .0) _
-          (and-right (lib.Dec.leb (seen (now (args .book)) (args .d .0) (args .s .0) (args .from .0)) end) _ (parts-fit at2)) .0,
+      waiting-room (countsOf (now (args .book))) (now (args .book)) (args .s .0) (args .from .0) _
+          (and-right (lib.Dec.leb (seen (now (args .book)) (args .d .0) (args .s .0) (args .from .0)) end) _ (parts-fit at2)),
     )
 
 returns-4 : tie.Need-returns-4

@@ -4,6 +4,7 @@ use mathlib.Core.Path.{_∙_}
 use mathlib.Core.List.{[], _∷_}
 use lib.ListN.{getD}
 use Rattle.book.specs.Layout.{copyKind}
+use Rattle.card.specs.Card.{wordOf}
 use Rattle.register.specs.Answers.{cut}
 use borrow.Author.Needs.{needs}
 use Rattle.write.proofs.made_copy.Statement.{statement}
@@ -17,7 +18,7 @@ returns c =
     let vector = c .before .before .before .before .before .made-vector .ensures in
     let args = c .before .before .before .before .before .before .before .args in
     c .message-of .ensures
-    ∙ (λ z. copyKind ∷ bearing z ∷ args .value ∷ 0 ∷ 0 ∷ origin z ∷ getD (vector z) 0 0 ∷ getD (vector z) 1 0 ∷ getD (vector z) 2 0 ∷ getD (vector z) 3 0 ∷ [])
+    ∙ (λ z. copyKind ∷ bearing z ∷ args .value ∷ wordOf (args .card .diameter) ∷ wordOf (args .card .width) ∷ origin z ∷ getD (vector z) 0 0 ∷ getD (vector z) 1 0 ∷ getD (vector z) 2 0 ∷ getD (vector z) 3 0 ∷ [])
 
 pub made-copy-spec : {M : Type 1} → statement M
 made-copy-spec =

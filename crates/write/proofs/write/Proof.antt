@@ -41,7 +41,7 @@ returns-2 c =
     let at = c .before .before .before .before .before .before .before in
     let args = at .before .before .before .args in
     let good = good-asked _ _ _ _ _ (at .check-asked .ensures) (c .before .before .before .before .before .c .given .1) in
-    subst₂ (λ (x : Crew) (y : Bearing). Write (now (args .book)) (x .0) (y .0) (args .value) (call .result) (call .last .0)) (sym (good .1)) (sym (good .2)) (call .ensures)
+    subst₂ (λ (x : Crew) (y : Bearing). Write (now (args .book)) (x .0) (y .0) (args .payload) (call .result) (call .last .0)) (sym (good .1)) (sym (good .2)) (call .ensures)
 
 pub write-spec : {M : Type 1} → statement M
 write-spec =

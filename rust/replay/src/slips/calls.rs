@@ -48,14 +48,22 @@ impl Slipped {
         let value = book[record + VALUE];
         let hidden = (self.has(Slip::ZeroUnwritten) && value == 0) || (self.has(Slip::LateUnwritten) && value > LAST_DAY);
         let written = vector != [0; 4] && !hidden;
-        Ok(Reading { value: if written { Some(value) } else { None }, vector })
+        let told = written || self.has(Slip::UnwrittenCard);
+        let (diameter, width) = if told { (book[record + DIAMETER], book[record + WIDTH]) } else { (0, 0) };
+        Ok(Reading { value: if written { Some(value) } else { None }, diameter, width, vector })
     }
 
-    pub(super) fn call_write(&self, book: &mut [u32], crew: u32, bearing: u32, value: u32) -> Answer<Written> {
-        let event = Event::Write { crew, bearing, value };
+    pub(super) fn call_write(&self, book: &mut [u32], crew: u32, bearing: u32, value: u32, card: [u32; 2]) -> Answer<Written> {
+        let event = Event::Write { crew, bearing, value, card };
         let late = self.late(value);
+        let none = !self.card(card);
         // BAD DATE in place of another refusal.
-        let sooner = |slip: Slip, refusal: Refusal| if late && self.has(slip) { Refusal::BadDate } else { refusal };
+        let sooner = |slip: Slip, refusal: Refusal| match self.0 {
+            Slip::CardBeforeKey if none && matches!(refusal, Refusal::BadCrew | Refusal::BadKey) => Refusal::BadCard,
+            Slip::CardBeforeParts if none && slip == Slip::DateBeforeParts => Refusal::BadCard,
+            _ if late && self.has(slip) => Refusal::BadDate,
+            _ => refusal,
+        };
         let n = self.counts(book, &event).map_err(|refusal| sooner(Slip::DateBeforeBook, refusal))?;
         let (crew, bearing) = self.crew_and_bearing(book, n, crew, bearing).map_err(|refusal| match refusal {
             Refusal::BadCrew => sooner(Slip::DateBeforeCrew, refusal),
@@ -72,7 +80,7 @@ impl Slipped {
         let now = book[clock(depot, shelf)];
         let waits = mine[depot] > now || (self.has(Slip::WaitAtEqual) && mine[depot] == now && now > 0);
         if self.has(Slip::WaitFirst) {
-            if waits && !late {
+            if waits && !late && !none {
                 return Err(Refusal::Wait);
             }
             look(book)?;
@@ -80,8 +88,14 @@ impl Slipped {
         if late && self.has(Slip::DateAfterShow) {
             self.raise_and_show(book, n, depot, shelf, mine);
         }
+        if none && self.has(Slip::CardBeforeDate) {
+            return Err(Refusal::BadCard);
+        }
         if late && !(waits && self.has(Slip::DateAfterWait)) && !self.has(Slip::DateAfterRoom) {
             return Err(Refusal::BadDate);
+        }
+        if none && !late && !(waits && self.has(Slip::CardAfterWait)) {
+            return Err(Refusal::BadCard);
         }
         if waits && !self.has(Slip::WaitAfterEnd) {
             return Err(if late && self.has(Slip::DateAfterRoom) { Refusal::BadDate } else { Refusal::Wait });
@@ -93,12 +107,18 @@ impl Slipped {
         if late {
             return Err(Refusal::BadDate);
         }
+        if none {
+            return Err(Refusal::BadCard);
+        }
 
         self.raise_and_show(book, n, depot, shelf, mine);
         let stamp = if self.has(Slip::StampAsItStands) { now.max(1) } else { now.wrapping_add(1) };
         let mut version = [0; RECORD];
         version[BEARING] = bearing as u32;
         version[VALUE] = value;
+        let swapped = self.has(Slip::CardSwapped) as usize;
+        version[DIAMETER] = card[swapped];
+        version[WIDTH] = card[1 - swapped];
         version[ORIGIN] = depot as u32;
         version[VECTOR..].copy_from_slice(&mine);
         version[VECTOR + depot] = stamp;
@@ -108,11 +128,18 @@ impl Slipped {
         let place = &mut book[stored(depot, bearing)..][..RECORD];
         let current = self.above(&version, place, n.depots) || self.has(Slip::LatestWriteKept);
         if current {
+            let other = [place[DIAMETER], place[WIDTH]];
             place.copy_from_slice(&version);
+            if self.has(Slip::CardOfOther) && straight::is_card(other[0], other[1]) {
+                place[DIAMETER..ORIGIN].copy_from_slice(&other);
+            }
         }
         let mut message = [0; SLOT];
         message[0] = COPY;
         message[1..].copy_from_slice(&version);
+        if self.has(Slip::LinkWithoutWidth) {
+            message[1 + WIDTH] = 1;
+        }
         if current || !self.has(Slip::SupersededNotSent) {
             self.send(book, n, depot, shelf, stamp, message)?;
         } else {
@@ -222,7 +249,77 @@ impl Slipped {
         Ok(())
     }
 
+    pub(super) fn call_move(&self, book: &mut [u32], crew: u32, depot: u32) -> Answer<()> {
+        let event = Event::Move { crew, depot };
+        let n = self.counts(book, &event)?;
+        if self.has(Slip::MoveDepotFirst) {
+            below(depot, n.depots, Refusal::BadDepot)?;
+        }
+        let crew = below(crew, n.crews, Refusal::BadCrew)?;
+        let depot = below(depot, n.depots, Refusal::BadDepot)?;
+        let present = book[home(crew)] as usize;
+        let at = if self.has(Slip::MovePresentStamps) { present.min(3) } else { depot };
+        let seen_from = |x: usize| {
+            let stamps = (0..n.shelves).map(|shelf| book[seen(at, shelf, x)]);
+            if self.has(Slip::MoveHighest) { stamps.max() } else { stamps.min() }.unwrap_or(0)
+        };
+        let counts = |x: usize| match self.0 {
+            Slip::MoveOwnEntry => true,
+            Slip::MovePresentEntry => x == present,
+            _ => x != depot,
+        };
+        let above = |x: usize| {
+            let entry = book[crew_vector(crew) + x];
+            entry > seen_from(x) || (self.has(Slip::MoveAtEqual) && entry == seen_from(x))
+        };
+        let behind = (0..n.depots).any(|x| counts(x) && above(x));
+        let refused = behind && (present != depot || self.has(Slip::MovePresentShut));
+        if refused && self.has(Slip::MoveBeforeParts) {
+            return Err(Refusal::NotHereYet);
+        }
+        if !(self.has(Slip::MovePresentNames) && present == depot) {
+            self.look(book, n, &event)?;
+        }
+        if !refused || self.has(Slip::MoveAnyway) {
+            book[home(crew)] = depot as u32;
+        }
+        if refused {
+            return Err(Refusal::NotHereYet);
+        }
+        if self.has(Slip::MoveClears) {
+            book[crew_vector(crew)..][..n.depots].fill(0);
+        }
+        Ok(())
+    }
+
     /// Whether a value is beyond the calendar.
+    /// Whether a write's two words are a card.
+    fn card(&self, card: [u32; 2]) -> bool {
+        let length = |bits: u32| {
+            let length = f32::from_bits(bits);
+            match self.0 {
+                Slip::LongestRefused => length > 0.0 && length < 2_000.0,
+                Slip::NextPasses => length > 0.0 && bits <= 0x44FA_0001,
+                Slip::ZeroPasses => (0.0..=2_000.0).contains(&length),
+                Slip::NegativePasses => length != 0.0 && length <= 2_000.0 && length.is_finite(),
+                Slip::NanPasses => !(length <= 0.0 || length > 2_000.0),
+                Slip::SmallRefused => length.is_normal() && length > 0.0 && length <= 2_000.0,
+                _ => straight::is_card(bits, bits),
+            }
+        };
+        length(card[0]) && (length(card[1]) || self.has(Slip::WidthUnchecked))
+    }
+
+    pub(super) fn call_grams(&self, card: [u32; 2]) -> Answer<f64> {
+        let grams = straight::grams(card[0], card[1])?;
+        let (diameter, width) = (f32::from_bits(card[0]), f32::from_bits(card[1]));
+        Ok(match self.0 {
+            Slip::WidthFirst => f64::from(diameter) * (f64::from(width) * 0.005),
+            Slip::ShortProduct => f64::from(diameter * width) * 0.005,
+            _ => grams,
+        })
+    }
+
     fn late(&self, value: u32) -> bool {
         let last = match self.0 {
             Slip::LastDayRefused => LAST_DAY - 1,
@@ -303,8 +400,8 @@ impl Slipped {
         let greater = !dropped && self.above(&book[record..][..RECORD], &book[there..][..RECORD], n.depots);
         if greater || self.has(Slip::LatestCopyKept) {
             book.copy_within(record..record + RECORD, there);
-            if self.has(Slip::SpareCleared) {
-                book[there + 2..there + 4].fill(0);
+            if self.has(Slip::CardCleared) {
+                book[there + DIAMETER..there + ORIGIN].fill(0);
             }
         }
     }

@@ -47,9 +47,9 @@ impl Slipped {
                 let most = if self.has(Slip::FitSeventeen) { ROOM + 1 } else { ROOM };
                 held <= most && (taken <= held || self.has(Slip::HeldOnly))
             }
-            Piece::Messages { shelf, from, to } => {
-                let count = book[held(link(shelf, from, to))].min(ROOM + u32::from(self.has(Slip::FitSeventeen)));
-                (0..count as usize).all(|place| self.message_fit(book, n, shelf, from, to, place))
+            Piece::Taken { shelf, from, to } | Piece::Untaken { shelf, from, to } => {
+                let mut places = piece.places(book, ROOM + u32::from(self.has(Slip::FitSeventeen)));
+                places.all(|place| self.message_fit(book, n, shelf, from, to, place))
             }
             Piece::Stored { depot, bearing } => self.stored(book, n, depot, bearing),
         }
@@ -88,6 +88,7 @@ impl Slipped {
             && (bearing % n.shelves == shelf || self.has(Slip::FitAnyShelf))
             && self.entries(&record[VECTOR..], n)
             && (record[VECTOR + from] > 0 || self.has(Slip::FitNoStamp))
+            && (straight::is_card(record[DIAMETER], record[WIDTH]) || self.has(Slip::FitCopyCard))
     }
 
     fn stored(&self, book: &[u32], n: Counts, depot: usize, bearing: usize) -> bool {
@@ -95,6 +96,10 @@ impl Slipped {
         let unwritten = record[VECTOR..][..n.depots].iter().all(|&entry| entry == 0);
         let origin = record[ORIGIN] as usize;
         let place = record[BEARING] as usize == bearing;
+        let card = straight::is_card(record[DIAMETER], record[WIDTH]);
+        if unwritten && self.has(Slip::FitUnwrittenCard) {
+            return card || record[DIAMETER..ORIGIN] == [0, 0];
+        }
         if unwritten {
             return place || record[BEARING] == 0 || !self.has(Slip::FitUnwritten);
         }
@@ -104,5 +109,6 @@ impl Slipped {
             && origin < n.depots
             && self.entries(&record[VECTOR..], n)
             && (record[VECTOR + origin] > 0 || self.has(Slip::FitNoStamp))
+            && (card || self.has(Slip::FitStoredCard))
     }
 }

@@ -26,7 +26,7 @@ impl Slipped {
             None => return "13\n".to_string(),
         };
         let depots = |book: &[u32]| book[0] as usize;
-        let mut out = [0; 6];
+        let mut out = [0; 8];
         let more = self.has(Slip::LineMore);
         let number = match (event, &numbers[..]) {
             (b'S', [a, b, c, d, homes @ ..]) if homes.len() <= 16 || (self.has(Slip::LineTwentyOne) && homes.len() == 17) => {
@@ -36,8 +36,8 @@ impl Slipped {
             (b'R', [crew, bearing, rest @ ..]) if rest.is_empty() || more => {
                 match read_answer(self.call_read(book, *crew, *bearing), &mut out) {
                     0 => {
-                        let value = if out[0] == 1 { out[1].to_string() } else { "-".to_string() };
-                        return out[2..2 + depots(book)]
+                        let value = if out[0] == 1 { format!("{} {} {}", out[1], out[2], out[3]) } else { "-".to_string() };
+                        return out[4..4 + depots(book)]
                             .iter()
                             .fold(format!("0 {}", value), |text, entry| format!("{} {}", text, entry))
                             + "\n";
@@ -45,9 +45,15 @@ impl Slipped {
                     number => number,
                 }
             }
-            (b'W', [_, _, value]) if self.has(Slip::LineDate) && *value > straight::calendar::LAST_DAY => 13,
-            (b'W', [crew, bearing, value, rest @ ..]) if rest.is_empty() || more => {
-                match write_answer(self.call_write(book, *crew, *bearing, *value), &mut out) {
+            (b'W', [_, _, value, _, _]) if self.has(Slip::LineDate) && *value > straight::calendar::LAST_DAY => 13,
+            (b'W', [crew, bearing, value]) if self.has(Slip::LineNoCard) => {
+                match write_answer(self.call_write(book, *crew, *bearing, *value, [0x3F80_0000; 2]), &mut out) {
+                    0 => return format!("0 {} {}\n", out[0], if out[1] == 1 { "C" } else { "S" }),
+                    number => number,
+                }
+            }
+            (b'W', [crew, bearing, value, diameter, width, rest @ ..]) if rest.is_empty() || more => {
+                match write_answer(self.call_write(book, *crew, *bearing, *value, [*diameter, *width]), &mut out) {
                     0 => return format!("0 {} {}\n", out[0], if out[1] == 1 { "C" } else { "S" }),
                     number => number,
                 }

@@ -19,7 +19,7 @@ impl Slipped {
         n.crews = n.crews.min(MOST_CREWS as usize);
         let fit = match (self.0, event) {
             (Slip::HomesLate, _) => true,
-            (Slip::OwnHomeOnly, Event::Read { crew, .. } | Event::Write { crew, .. }) => {
+            (Slip::OwnHomeOnly, Event::Read { crew, .. } | Event::Write { crew, .. } | Event::Move { crew, .. }) => {
                 *crew as usize >= n.crews || (book[home(*crew as usize)] as usize) < n.depots
             }
             (Slip::OwnHomeOnly, _) => true,
@@ -62,12 +62,12 @@ impl Slipped {
             (Slip::With(slipped, with), _) if call == slipped && part == with => true,
             (Slip::HeadsOfOtherWay, Part::HeadsOut) => false,
             (Slip::HeadsOfOtherWay, Part::HeadsIn) if call == Call::Tick => true,
-            (Slip::TakeOtherWay, Part::HeadsIn | Part::MessagesIn) if call == Call::Take => false,
+            (Slip::TakeOtherWay, Part::HeadsIn | Part::UntakenIn) if call == Call::Take => false,
             (Slip::TakeOtherWay, Part::HeadsOut | Part::MessagesOut) if call == Call::Take => match piece {
-                Piece::Head { to, .. } | Piece::Messages { to, .. } => named.from == Some(to),
+                Piece::Head { to, .. } | Piece::Untaken { to, .. } => named.from == Some(to),
                 _ => false,
             },
-            (Slip::ShowOtherWay, Part::HeadsIn | Part::MessagesIn) if shows => false,
+            (Slip::ShowOtherWay, Part::HeadsIn | Part::TakenIn | Part::UntakenIn) if shows => false,
             (Slip::ShowOtherWay, Part::HeadsOut | Part::MessagesOut) if shows => true,
             (Slip::SeenOfShelfZero, Part::SeenHere | Part::SeenBeside) if call == Call::Refresh => {
                 matches!(piece, Piece::Seen { shelf: 0, .. })
@@ -79,14 +79,11 @@ impl Slipped {
     /// Whether a piece that a call looks at seems fit to it.
     fn seems_fit(&self, book: &[u32], n: Counts, named: &Named, piece: Piece) -> bool {
         match (self.0, piece) {
-            (Slip::OneMessage, Piece::Messages { shelf, from, to }) if named.call == Call::Take => {
+            (Slip::OneMessage, Piece::Untaken { shelf, from, to }) if named.call == Call::Take => {
                 let (held, place) = self.head(book, link(shelf, from, to));
                 place >= held || self.message_fit(book, n, shelf, from, to, place)
             }
-            (Slip::TakenOnly, Piece::Messages { shelf, from, to }) if named.call != Call::Take => {
-                let (_, taken) = self.head(book, link(shelf, from, to));
-                (0..taken).all(|place| self.message_fit(book, n, shelf, from, to, place))
-            }
+            (Slip::TakenOnly, Piece::Untaken { .. }) if named.call != Call::Take => true,
             (Slip::SeenOwnToo, Piece::Seen { depot, shelf, .. }) if named.call == Call::Refresh => {
                 self.piece_fit(book, n, piece) && book[seen(depot, shelf, depot)] <= END
             }

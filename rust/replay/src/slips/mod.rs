@@ -9,7 +9,7 @@ mod look;
 use std::fmt;
 
 use crate::parts::{looks, means, Call, Part, CALLS, PARTS};
-use crate::register::{number, read_answer, write_answer, Register};
+use crate::register::{grams_answer, in_room, number, read_answer, write_answer, Register};
 pub use lines::desk;
 
 macro_rules! slips {
@@ -167,8 +167,48 @@ slips! {
     EqualReplaces,
     /// Unwritten records are told apart by their origin.
     UnwrittenOrigin,
-    /// The spare words of a copy are written as 0 when it is stored.
-    SpareCleared,
+    /// The card of a copy is written as 0 when it is stored.
+    CardCleared,
+    /// A stored version keeps the card of the one that it replaces.
+    CardOfOther,
+    /// A copy on a link has no width.
+    LinkWithoutWidth,
+    /// Diameter and width change places.
+    CardSwapped,
+    /// A length of 2,000 is BAD CARD.
+    LongestRefused,
+    /// The float after 2,000 passes.
+    NextPasses,
+    /// A length of 0 passes.
+    ZeroPasses,
+    /// A negative length passes.
+    NegativePasses,
+    /// A NaN passes, as it is not above 2,000.
+    NanPasses,
+    /// A length below the least float that has all its digits is BAD CARD.
+    SmallRefused,
+    /// The width is not looked at.
+    WidthUnchecked,
+    /// BAD CARD is noticed before BAD CREW or BAD KEY.
+    CardBeforeKey,
+    /// BAD CARD is noticed before the parts are looked at.
+    CardBeforeParts,
+    /// BAD CARD is noticed before BAD DATE.
+    CardBeforeDate,
+    /// BAD CARD is noticed after WAIT.
+    CardAfterWait,
+    /// A read of an unwritten bearing tells the words where a card would stand.
+    UnwrittenCard,
+    /// The grams: width times 0.005 first.
+    WidthFirst,
+    /// The grams: the product of the two is rounded to 32 bits.
+    ShortProduct,
+    /// Fit: a stored version with any card passes.
+    FitStoredCard,
+    /// Fit: a copy with any card passes.
+    FitCopyCard,
+    /// Fit: the card of an unwritten record is looked at.
+    FitUnwrittenCard,
     /// Fit: an entry of 2,147,483,648 passes.
     FitPastEnd,
     /// Fit: an entry of 2,147,483,647 does not pass.
@@ -239,6 +279,28 @@ slips! {
     MendsClocks,
     /// A tick clears a message that is not fit in front of its own.
     MendsMessages,
+    /// A move tests the new home's own entry too.
+    MoveOwnEntry,
+    /// A move tests the stamps seen at the present home.
+    MovePresentStamps,
+    /// A move tests the highest stamp seen, not the lowest.
+    MoveHighest,
+    /// A move tests the stamps seen from the present home only.
+    MovePresentEntry,
+    /// A move to the present home is tested as any other.
+    MovePresentShut,
+    /// A move waits at an equal stamp too.
+    MoveAtEqual,
+    /// A move clears the crew's vector.
+    MoveClears,
+    /// A move that is refused moves the crew all the same.
+    MoveAnyway,
+    /// Move: the depot is checked before the crew.
+    MoveDepotFirst,
+    /// Move: NOT HERE YET is noticed before the parts are looked at.
+    MoveBeforeParts,
+    /// A move to the present home looks at no part.
+    MovePresentNames,
     /// A line of 121 bytes passes.
     Line121,
     /// A line of 120 bytes is too long.
@@ -261,6 +323,8 @@ slips! {
     LineMore,
     /// A W line with a value beyond the calendar is BAD LINE.
     LineDate,
+    /// A W line without a card passes, with one of 1 by 1.
+    LineNoCard,
 }
 
 /// The straight version with a mistake.
@@ -278,11 +342,11 @@ impl Register for Slipped {
     }
 
     fn read(&self, book: &mut [u32], crew: u32, bearing: u32, out: &mut [u32]) -> u32 {
-        read_answer(self.call_read(book, crew, bearing), out)
+        in_room(8, out, |out| read_answer(self.call_read(book, crew, bearing), out))
     }
 
-    fn write(&self, book: &mut [u32], crew: u32, bearing: u32, value: u32, out: &mut [u32]) -> u32 {
-        write_answer(self.call_write(book, crew, bearing, value), out)
+    fn write(&self, book: &mut [u32], crew: u32, bearing: u32, value: u32, card: [u32; 2], out: &mut [u32]) -> u32 {
+        in_room(2, out, |out| write_answer(self.call_write(book, crew, bearing, value, card), out))
     }
 
     fn tick(&self, book: &mut [u32], depot: u32, shelf: u32) -> u32 {
@@ -297,6 +361,10 @@ impl Register for Slipped {
         number(self.call_refresh(book, depot, shelf))
     }
 
+    fn move_crew(&self, book: &mut [u32], crew: u32, depot: u32) -> u32 {
+        number(self.call_move(book, crew, depot))
+    }
+
     fn is_fit(&self, book: &[u32]) -> u32 {
         self.fit(book) as u32
     }
@@ -306,6 +374,10 @@ impl Register for Slipped {
             return straight::above(b, a, depots as usize) as u32;
         }
         self.above(b, a, depots as usize) as u32
+    }
+
+    fn grams(&self, card: [u32; 2], out: &mut [u32]) -> u32 {
+        in_room(2, out, |out| grams_answer(self.call_grams(card), out))
     }
 
     fn line(&self, book: &mut [u32], line: &[u8], out: &mut [u8]) -> usize {

@@ -24,11 +24,11 @@ array-share-prefix-numbers c =
     let k = told-room _ told in
     omega arith
 
-slice-aggregate-run : tie.Need-slice-aggregate-run
-slice-aggregate-run c = told-part _ (c .before .before .before .before .before .before .read-line .ensures)
+slice-aggregate-run-event : tie.Need-slice-aggregate-run-event
+slice-aggregate-run-event c = told-part _ (c .before .before .before .before .before .before .read-line .ensures)
 
-run-requires : tie.Need-run-requires
-run-requires c κs = c .before .before .before .before .before .before .before .before .before .before .before .pre
+run-event-requires : tie.Need-run-event-requires
+run-event-requires c κs = c .before .before .before .before .before .before .before .before .before .before .before .pre
 
 returns : tie.Need-returns
 unfolding readingBook readingSays
@@ -42,7 +42,7 @@ returns-2 c =
     answered-reading _
     (says-read _ _ _
     (told-event _ (c .before .before .before .before .before .before .before .before .before .before .before .before .read-line .ensures) _
-    (c .before .before .before .before .before .before .before .before .before .said .given .1))) (c .before .before .before .before .run .ensures)
+    (c .before .before .before .before .before .before .before .before .before .said .given .1))) (c .before .before .before .before .run-event .ensures)
 
 pub say-line-spec : {M : Type 1} → statement M
 say-line-spec =
@@ -53,8 +53,8 @@ say-line-spec =
     answer-number-requires
     (λ c. search needs)
     array-share-prefix-numbers
-    slice-aggregate-run
-    run-requires
+    slice-aggregate-run-event
+    run-event-requires
     (λ c. search needs)
     returns
     (λ c. search needs)

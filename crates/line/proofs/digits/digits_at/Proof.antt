@@ -8,13 +8,13 @@ use mathlib.Core.Bool.{false}
 use denote.Ref.{now}
 use lib.ListN.{length, drop, getD}
 use borrow.Author.Needs.{needs}
-use Rattle.line.specs.Number.{run, isDigit}
+use Rattle.line.specs.Number.{digitRun, isDigit}
 use Rattle.line.proofs.DigitLaws.{digit-yes, digit-low, digit-high, run-more, run-stop, run-end}
 use Rattle.line.proofs.digits.digits_at.Statement.{statement}
 use Rattle.line.proofs.digits.digits_at.Tie as tie
 
 abbrev Inv-loop : tie.InvT-loop
-Inv-loop s at i₀ i = (at ≤ i) × (i + run (drop i s) ≡ at + run (drop at s))
+Inv-loop s at i₀ i = (at ≤ i) × (i + digitRun (drop i s) ≡ at + digitRun (drop at s))
 
 abbrev μ-loop : tie.MeasureT-loop
 μ-loop s at i₀ i = length s - i

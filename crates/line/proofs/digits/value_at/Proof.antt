@@ -7,13 +7,13 @@ use mathlib.Core.Path.{_≡_, refl, sym, _∙_}
 use denote.Ref.{now}
 use lib.ListN.{length, drop}
 use borrow.Author.Needs.{needs}
-use Rattle.line.specs.Number.{run, valueFrom}
+use Rattle.line.specs.Number.{digitRun, valueFrom}
 use Rattle.line.proofs.DigitLaws.{digit-yes, digit-low, digit-high, run-more, value-more, value-stop, value-end, value-small, value-start, value-grows}
 use Rattle.line.proofs.digits.value_at.Statement.{statement}
 use Rattle.line.proofs.digits.value_at.Tie as tie
 
 abbrev Inv-loop : tie.InvT-loop
-Inv-loop s at v₀ i₀ v i = (at ≤ i) × (i + run (drop i s) ≡ at + run (drop at s)) × (v < 10 ^ (i - at)) × (valueFrom v (drop i s) ≡ valueFrom 0 (drop at s))
+Inv-loop s at v₀ i₀ v i = (at ≤ i) × (i + digitRun (drop i s) ≡ at + digitRun (drop at s)) × (v < 10 ^ (i - at)) × (valueFrom v (drop i s) ≡ valueFrom 0 (drop at s))
 
 abbrev μ-loop : tie.MeasureT-loop
 μ-loop s at v₀ i₀ v i = length s - i

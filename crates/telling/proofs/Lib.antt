@@ -1,0 +1,3 @@
+pub mod ToldLaws
+pub mod Room
+pub mod CallLaws

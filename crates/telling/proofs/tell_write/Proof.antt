@@ -1,0 +1,36 @@
+-- `telling::tell_write` meets its contract: without room nothing is done; with it the promise of the write, and what is told of its reply.
+-- Assumes nothing.
+use mathlib.Core.Path.{_∙_}
+use Rattle.upkeep.specs.Requests.{did-write}
+use Rattle.room.proofs.RoomLaws.{with-room, no-room}
+use Rattle.telling.proofs.CallLaws.{by-call, told-by}
+use borrow.Author.Needs.{needs}
+use Rattle.telling.proofs.tell_write.Statement.{statement}
+use Rattle.telling.proofs.tell_write.Tie as tie
+
+returns : tie.Need-returns
+returns c =
+    let short = c .if1 .taken in
+    (no-room _ _ _ _ short, (no-room _ _ _ _ short, no-room _ _ _ _ short))
+
+returns-2 : tie.Need-returns-2
+returns-2 c =
+    let replied = c .before .before .before .before .before in
+    let wide = replied .before .before .before .before .before .if1 .left in
+    let promise = did-write (replied .before .before .before .write .ensures) in
+    let said = by-call promise (replied .wrote .ensures .0) (c .number-in .ensures) in
+    let told = told-by _ promise (replied .wrote .ensures .0) (c .before .before .before .tell .ensures) in
+    (said .0 ∙ with-room _ _ _ _ wide, (said .1 ∙ with-room _ _ _ _ wide, told ∙ with-room _ _ _ _ wide))
+
+pub tell-write-spec : {M : Type 1} → statement M
+tell-write-spec =
+    tie.close
+    (tie.spec
+    returns
+    (λ c κs. search needs)
+    (λ c κs. search needs)
+    (λ c κs. search needs)
+    (λ c κs. search needs)
+    (λ c. search needs)
+    (λ c. search needs)
+    returns-2)
