@@ -48,6 +48,7 @@
 mod answers;
 pub mod calendar;
 mod card;
+pub mod frames;
 mod numbers;
 pub mod raw;
 
