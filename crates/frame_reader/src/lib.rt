@@ -1,9 +1,14 @@
 // A frame is read: its form, its serial; and what it carries is handed out. The book is only read, and `read_frame` asks nothing of its caller.
 use book::layout::BEAT;
+use book::layout::COPY;
+use book::layout::END;
 use book::layout::LINK_ROOM;
+use book::layout::SLOT_RECORD;
+use book::layout::SLOT_STAMP;
 use book::layout::SLOT_WORDS;
 use book::numbers::Depot;
 use book::numbers::Shelf;
+use book::parts::Counts;
 use book::parts::counts_of;
 use book::words::write_words;
 use frame::FrameAnswer;
@@ -14,7 +19,7 @@ use frame::whom_of;
 use paper::answer::Refusal;
 use register::check::LinkCheck;
 use register::check::check_link;
-use versions::link::message_fits;
+use versions::version::carried_fits;
 use wire::half_at;
 use wire::wide_byte;
 use wire::word_at;
@@ -27,6 +32,7 @@ ghost use Rattle.order.specs.Record.{mostDepots};
 ghost use Rattle.paper.specs.Calls.{first};
 ghost use Rattle.book.specs.Words.{put};
 ghost use Rattle.book.specs.Layout.{slotWords, countsOf};
+ghost use Rattle.fit.specs.Fit.{messageFit};
 ghost use Rattle.named.specs.Named.{baseFit};
 ghost use Rattle.frame.specs.Frame.{offsetAt, bodyAt, countIn, startIn, entryAt, copyAt, messageAt, messageRight, headRight, messagesRight, formed, bodyIn};
 ghost use Rattle.frame.specs.Promises.{Ready, Outcome, arrivalRows, WasRead};
@@ -87,6 +93,21 @@ fn message_at(f: &[u8], way: Route, at: usize) -> [u32; 10]
         return [BEAT, stamp, 0, 0, 0, 0, 0, 0, 0, 0];
     }
     copy_at(f, way, at)
+}
+
+// Whether a message is fit for the link of a shelf out of a depot, as a book's messages that wait are judged.
+fn message_fits(message: &[u32], n: Counts, s: Shelf, from: Depot) -> bool
+    requires { ⌜ (length (now message) ≡ slotWords) × (n .depots ≤ mostDepots) × (0 < n .shelves) ⌝ }
+    ensures { λ r. ⌜ r ≡ messageFit n (s .0) (from .0) (now (message .entry)) ⌝ }
+{
+    let kind = message[0];
+    if kind == BEAT {
+        return message[SLOT_STAMP] <= END;
+    }
+    if kind != COPY {
+        return false;
+    }
+    carried_fits(&message[SLOT_RECORD..SLOT_WORDS], n, s, from)
 }
 
 // Whether message i is right at a place.

@@ -33,7 +33,7 @@ fn copy_fits(message: &[u32], n: Counts, s: Shelf, from: Depot) -> bool
 }
 
 // Whether a message is a heartbeat in range or such a copy.
-pub fn message_fits(message: &[u32], n: Counts, s: Shelf, from: Depot) -> bool
+fn message_fits(message: &[u32], n: Counts, s: Shelf, from: Depot) -> bool
     requires { ⌜ (length (now message) ≡ slotWords) × (n .depots ≤ mostDepots) × (0 < n .shelves) ⌝ }
     ensures { λ r. ⌜ r ≡ messageFit n (s .0) (from .0) (now (message .entry)) ⌝ }
 {

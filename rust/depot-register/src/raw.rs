@@ -69,6 +69,7 @@ mod library {
             out: *mut u32,
             out_count: usize,
         ) -> u32;
+        pub fn depot_audit(history: *const u32, words: usize) -> u32;
         pub fn depot_is_date(year: u32, month: u32, day: u32) -> u32;
         pub fn depot_day_number(year: u32, month: u32, day: u32, out: *mut u32, out_count: usize) -> u32;
         pub fn depot_date_of(day: u32, out: *mut u32, out_count: usize) -> u32;
@@ -159,6 +160,10 @@ pub fn read_frame(
     unsafe {
         library::depot_read_frame(book, words, depot, shelf, from, expected, bytes, length, handed, room, out.as_mut_ptr(), out.len())
     }
+}
+
+pub fn audit(history: &[u32]) -> u32 {
+    unsafe { library::depot_audit(history.as_ptr(), history.len()) }
 }
 
 pub fn is_date(year: u32, month: u32, day: u32) -> u32 {
