@@ -262,6 +262,9 @@ fn the_parts_of_the_writer() {
     let mut good = fresh();
     lay(&mut good, link, 2, &[twenty, twenty, twenty, heartbeat(2)]);
     assert_eq!(writes(&good, [1, 0, 0], 2, 65_535), Ok(hex(THIRD)), "taken copies are not sent again");
+    for count in [3, 4] {
+        assert_eq!(writes(&good, [1, 0, 0], count, 0), Err(BAD_COUNT), "nor do they count: {} of 2", count);
+    }
 
     // Words that are looked at, each with a value that is not fit; the last message too, if it is not sent.
     let copy_at = slot(link, 2);
