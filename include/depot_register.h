@@ -28,6 +28,7 @@ extern "C" {
 #define DEPOT_RECORD_WORDS 9   /* words of a version record */
 #define DEPOT_READ_WORDS 8     /* room that depot_read's answer takes in `out` */
 #define DEPOT_WRITE_WORDS 2    /* room that depot_write's answer takes in `out` */
+#define DEPOT_WHO_WORDS 2      /* room that depot_who_has's answer takes in `out` */
 #define DEPOT_GRAMS_WORDS 2    /* room that depot_grams' answer takes in `out` */
 #define DEPOT_NUMBER_WORDS 1   /* room that depot_day_number's answer takes in `out` */
 #define DEPOT_DATE_WORDS 3     /* room that depot_date_of's answer takes in `out` */
@@ -52,6 +53,8 @@ enum depot_answer {
     DEPOT_LINK_FULL = 9,     /* a write or a tick, and some link out has no room */
     DEPOT_CLOCK_AT_END = 10, /* a write or a tick, and the clock is 2,147,483,647 */
     DEPOT_BAD_COUNTS = 11,   /* a setup, and a count is out of range or the homes are not as many as the crews */
+    DEPOT_NOT_HERE_YET = 12, /* a move, and for some depot other than the new home the crew's entry is above the lowest stamp
+                              * that any shelf of the new home has seen from it */
     DEPOT_BAD_LINE = 13,     /* depot_line only */
     DEPOT_BAD_CARD = 14,     /* a write, or the grams, and a length is not finite, above 0 and at most 2,000 */
     DEPOT_BAD_DATE = 16      /* a write, and the value is over DEPOT_LAST_DAY */
@@ -89,6 +92,17 @@ uint32_t depot_take(uint32_t *book, size_t words, uint32_t depot, uint32_t shelf
 /* The shelf raises its stable vector to the lowest stamps that the depot's shelves have seen, and shows what that covers.
  * Checks: 1, 2, 3. */
 uint32_t depot_refresh(uint32_t *book, size_t words, uint32_t depot, uint32_t shelf);
+
+/* Which depots now store a depot's present version of a bearing or a greater one. Looking changes no word of the book.
+ * Checks: 100 if out_count is below DEPOT_WHO_WORDS, 1, 2, 4.
+ * Done: bit d of out[0] is set if depot d has it, the depot itself among them; out[1] is how many bits are set. If what
+ * the depot has is unwritten, all depots have it. No other element of `out` is written. */
+uint32_t depot_who_has(const uint32_t *book, size_t words, uint32_t depot, uint32_t bearing, uint32_t *out, size_t out_count);
+
+/* A crew gets a new home, `depot`. It is let in when every shelf there has seen what the crew has seen of every other depot,
+ * so it reads there nothing lower than its past. To its present home it may always move; that changes nothing. One word of
+ * the book moves. Checks: 1, 5, 2, 12. */
+uint32_t depot_move(uint32_t *book, size_t words, uint32_t crew, uint32_t depot);
 
 /* 1 if the book is fit, else 0. A book of the wrong length is not. */
 uint32_t depot_is_fit(const uint32_t *book, size_t words);
@@ -131,6 +145,27 @@ uint32_t depot_date_of(uint32_t day, uint32_t *out, size_t out_count);
  * Given: out[0] is the year, out[1] the month, out[2] the day, out[3] the day number. */
 uint32_t depot_next_date(uint32_t year, uint32_t month, uint32_t day, uint32_t step, uint32_t n, uint32_t *out,
                          size_t out_count);
+
+/* The auditor: whether a history of reads and writes is causal. It needs no book; docs/AUDIT.md says what is looked for. A history is
+ * DEPOT_ENTRY_WORDS words an entry, each crew's entries in its own order: the kind, 0 a write and 1 a read; the crew; then a version
+ * record with four entries, 0 past the depots. Any words get an answer, in this order: too many, bad length, refused, circle, low,
+ * causal. It is one number: DEPOT_AUDIT_ANSWER of it is the answer, and DEPOT_AUDIT_ENTRY of it the entry that is named, counted
+ * from 0, or 0 where none is. */
+enum depot_audit_answer {
+    DEPOT_CAUSAL = 0,           /* nothing is wrong */
+    DEPOT_TOO_MANY_ENTRIES = 1, /* more than DEPOT_MOST_ENTRIES entries: nothing else was looked at */
+    DEPOT_BAD_LENGTH = 2,       /* the words are no whole number of entries */
+    DEPOT_REFUSED_ENTRY = 3,    /* the lowest entry that no history has */
+    DEPOT_CIRCLE = 4,           /* the first entry that rests on itself */
+    DEPOT_LOW_READ = 5          /* the first read that is lower than a write to its bearing in its past */
+};
+
+#define DEPOT_ENTRY_WORDS 11   /* words of an entry */
+#define DEPOT_MOST_ENTRIES 256 /* the most entries of a history */
+#define DEPOT_AUDIT_ANSWER(number) ((number) % 256u)
+#define DEPOT_AUDIT_ENTRY(number) ((number) / 256u)
+
+uint32_t depot_audit(const uint32_t *history, size_t words);
 
 #ifdef __cplusplus
 }

@@ -5,7 +5,7 @@ use native.Mathlib.Omega.{arith}
 use mathlib.Core.Path.{_≡_, refl, sym, _∙_, ap}
 use mathlib.Core.Logic.{inr}
 use mathlib.Core.Bool.{true}
-use mathlib.Core.List.{List, [], _∷_}
+use mathlib.Core.List.{List, _∷_}
 use lib.Dec.{eqb}
 use borrow.Author.Tests.{eq-eqb}
 use Rattle.loops.proofs.BoolLaws.{pick-true}
@@ -23,41 +23,41 @@ use Rattle.upkeep.specs.Requests.{call, numberAt, doneAnswer, replyTo, changedB
 use Rattle.upkeep.proofs.NeverBadBook.{fit-number}
 use Rattle.upkeep.proofs.NeverBadAnswer.{settled, refused-stays}
 use Rattle.model.specs.Parts as model
-use Rattle.model.specs.Parts.{fresh, State}
+use Rattle.model.specs.Parts.{State}
 use Rattle.model.specs.Rules as rules
-use Rattle.paper.specs.Calls.{Call, read, write, tick, take, refresh, reads, answerBy}
+use Rattle.paper.specs.Calls.{Call, read, write, tick, take, refresh, move, reads, answerBy}
 use Rattle.model.specs.Calls.{refusal, reading, acted}
 use Rattle.model.specs.System.{after, run}
+use Rattle.model.proofs.Places.{put-other}
 use Rattle.bridge.specs.View.{toModel}
 use Rattle.bridge.specs.Systems.{ofBooks}
 use Rattle.bridge.specs.Demands.{Demand1}
 use Rattle.bridge.proofs.Basics.{pick-then, pick-ap, pick-same}
 use Rattle.bridge.proofs.Sound.{sound}
 use Rattle.bridge.proofs.Numbers.{step-state}
-use Rattle.bridge.proofs.Agrees.{sound-by, home-by}
+use Rattle.bridge.proofs.Agrees.{sound-by, home-by, home-below-by}
 use Rattle.bridge.proofs.Followed.{followed}
 
--- ---- homes stay
+-- ---- homes stay, but for a move
 
 module _ (π : model.Counts) where
-  acted-home : (σ : State) (q : Call) → acted π σ q .state .home ≡ σ .home
-  unfolding acted reading rules.send rules.emit rules.settle rules.keep model.setShelf model.setCrew
-  acted-home σ (read c k) = refl
-  acted-home σ (write c k payload) = refl
-  acted-home σ (tick d s) = refl
-  acted-home σ (take d s from) = refl
-  acted-home σ (refresh d s) = refl
+  acted-home : (σ : State) (q : Call) (c : ℕ) → ((d : ℕ) → q ≡ move c d → ⊥) → acted π σ q .state .home c ≡ σ .home c
+  unfolding acted reading rules.send rules.emit rules.settle rules.keep model.setShelf model.setCrew model.setHome
+  acted-home σ (read b k) c n = refl
+  acted-home σ (write b k payload) c n = refl
+  acted-home σ (tick d s) c n = refl
+  acted-home σ (take d s from) c n = refl
+  acted-home σ (refresh d s) c n = refl
+  acted-home σ (move b d) c n = put-other b d (σ .home) c (λ e. n d (ap (λ (x : ℕ). move x d) (sym e)))
 
-  run-home : (homes : List ℕ) (h : List Call) → run π homes h .home ≡ fresh homes .home
+  run-home : (homes : List ℕ) (h : List Call) (q : Call) (c : ℕ) → ((d : ℕ) → q ≡ move c d → ⊥) → run π homes (q ∷ h) .home c ≡ run π homes h .home c
   unfolding after
-  run-home homes [] = refl
-  run-home homes (q ∷ h) =
+  run-home homes h q c n =
       let σ = run π homes h in
-      ap (λ (τ : State). τ .home) (step-state π σ q)
-      ∙ pick-ap (λ (τ : State). τ .home) (eqb (refusal π σ q) 0) (acted π σ q .state) σ
-      ∙ pick-then (eqb (refusal π σ q) 0) (σ .home) (λ t. acted-home σ q)
-      ∙ pick-same (eqb (refusal π σ q) 0) (σ .home)
-      ∙ run-home homes h
+      ap (λ (τ : State). τ .home c) (step-state π σ q)
+      ∙ pick-ap (λ (τ : State). τ .home c) (eqb (refusal π σ q) 0) (acted π σ q .state) σ
+      ∙ pick-then (eqb (refusal π σ q) 0) (σ .home c) (λ t. acted-home σ q c n)
+      ∙ pick-same (eqb (refusal π σ q) 0) (σ .home c)
 
 -- ---- the words of a read
 
@@ -86,10 +86,9 @@ unfolding after
 book-demand1 l n homes done = record {
   fits = λ h. followed l n homes done h .fits;
   counts = λ h. ap back (followed l n homes done h .counts);
-  homed = λ h c k.
-      sym (home-by (toModel n) _ _ (followed l n homes done h) c k)
-      ∙ ap (λ (f : ℕ → ℕ). f c) (run-home (toModel n) homes h)
-      ∙ home-by (toModel n) _ _ (followed l n homes done []) c k;
+  homed = λ h c k. home-below-by (toModel n) _ _ (followed l n homes done h) c k;
+  home-stays = λ h q c k e.
+      sym (home-by (toModel n) _ _ (followed l n homes done (q ∷ h)) c k) ∙ run-home (toModel n) homes h q c e ∙ home-by (toModel n) _ _ (followed l n homes done h) c k;
   taken-held = λ h s o d ks ko kd apart. sound-by (toModel n) _ _ (followed l n homes done h) .links s o d ks ko kd apart .order;
   never-bad = λ h r. fit-number (after (ofBooks n homes) h) (followed l n homes done h .fits) r;
   settled = λ h r a m c. settled c;

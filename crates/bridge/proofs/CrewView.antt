@@ -32,7 +32,7 @@ module _ (π : Counts) (m v : List ℕ) (size : length v ≡ length m) (above : 
   slot-above : (q i : ℕ) → slot v q i ≡ slot m q i
   slot-above q i = part-off v m (slotAt q i) 10 size λ j x y. above j (omega arith)
 
-  shelf-above : (d s : ℕ) → shelfAt π v d s ≡ shelfAt π m d s
+  pub shelf-above : (d s : ℕ) → shelfAt π v d s ≡ shelfAt π m d s
   unfolding shelfAt storeAt untakenOn
   shelf-above d s =
       shelf-path

@@ -12,7 +12,7 @@ use Rattle.register.specs.Calls.{setUp}
 use Rattle.upkeep.proofs.FitSetup.{setup-fit}
 use Rattle.model.specs.Parts.{Counts, Version, State, fresh}
 use Rattle.paper.specs.declared.answer.Payload.{Payload}
-use Rattle.paper.specs.Calls.{Call, read, write, tick, take, refresh, Answer}
+use Rattle.paper.specs.Calls.{Call, read, write, tick, take, refresh, move, Answer}
 use Rattle.model.specs.Calls.{shelfOf, made, refusal, step, answers, ends}
 use Rattle.model.specs.System.{after, ofModel, run}
 use Rattle.model.specs.Follows.{Alike, Follows}
@@ -27,6 +27,7 @@ use Rattle.bridge.proofs.Numbers.{read-number, write-number, tick-numbe
 use Rattle.bridge.proofs.TickCall.{tick-bridge}
 use Rattle.bridge.proofs.TakeCall.{take-bridge}
 use Rattle.bridge.proofs.RefreshCall.{refresh-bridge}
+use Rattle.bridge.proofs.MoveCall.{move-number, move-bridge}
 use Rattle.bridge.proofs.ReadCall.{read-bridge}
 use Rattle.bridge.proofs.WriteCall.{write-bridge}
 use Rattle.bridge.proofs.Agrees.{Agrees, clock-by, stable-by, seen-by, held-by, store-by, crew-by, home-by, home-below-by, made-by, answered-by}
@@ -41,6 +42,7 @@ module _ (l : List ℕ) (F : fit l ≡ true) where
   call-step (tick d s) = tick-bridge l F d s _ _ refl refl
   call-step (take d s from) = take-bridge l F d s from _ _ refl refl
   call-step (refresh d s) = refresh-bridge l F d s _ _ refl refl
+  call-step (move c d) = move-bridge l F c d _ _ refl refl
 
   call-number : (q : Call) → numberAt l (call q) ≡ refusal (countsIn l) (view l) q
   unfolding numberAt
@@ -49,6 +51,7 @@ module _ (l : List ℕ) (F : fit l ≡ true) where
   call-number (tick d s) = tick-number l F d s
   call-number (take d s from) = take-number l F d s from
   call-number (refresh d s) = refresh-number l F d s
+  call-number (move c d) = move-number l F c d
 
 -- ---- a book that is seen as a state
 

@@ -15,6 +15,7 @@ pub mod SetupCall
 pub mod TickCall
 pub mod TakeCall
 pub mod RefreshCall
+pub mod MoveCall
 pub mod CrewView
 pub mod HomeView
 pub mod ReadCall

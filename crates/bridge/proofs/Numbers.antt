@@ -23,7 +23,7 @@ use Rattle.bridge.proofs.Basics.{or-none, pick-else, pick-ap}
 use Rattle.bridge.proofs.Sound.{sound}
 use Rattle.bridge.proofs.Looks.{shelf-here, crew-here, home-here, untaken-here, none-here, roomy-here}
 
-fit-passes : {b : Bool} → b ≡ true → not b ≡ false
+pub fit-passes : {b : Bool} → b ≡ true → not b ≡ false
 fit-passes {b = true} e = refl
 fit-passes {b = false} e = absurd (false≢true e)
 

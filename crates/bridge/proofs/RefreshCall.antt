@@ -29,7 +29,7 @@ use Rattle.bridge.proofs.SettleView.{settled-view, settled-below}
 use Rattle.bridge.proofs.Assembly.{counts-same, view-by, Does, bridged-done}
 
 -- the lowest stamp seen, of another depot
-lowest-here : (π : Counts) (l : List ℕ) (d x : ℕ) → d < π .depots → Other (π .depots) d x → words.lowestSeen (π .depots) (π .shelves) d l x ≡ lowestSeen π d (viewBy π l) x
+pub lowest-here : (π : Counts) (l : List ℕ) (d x : ℕ) → d < π .depots → Other (π .depots) d x → words.lowestSeen (π .depots) (π .shelves) d l x ≡ lowestSeen π d (viewBy π l) x
 unfolding words.lowestSeen words.lowest lowestSeen lowest end other
 lowest-here π l d x kd o =
     pick-true _ _ (other-intro o)

@@ -7,6 +7,7 @@ use Rattle.bridge.proofs.WriteCall.{write-bridge}
 use Rattle.bridge.proofs.TickCall.{tick-bridge}
 use Rattle.bridge.proofs.TakeCall.{take-bridge}
 use Rattle.bridge.proofs.RefreshCall.{refresh-bridge}
+use Rattle.bridge.proofs.MoveCall.{move-bridge}
 
 pub the-bridge : Bridge
 the-bridge = record {
@@ -16,4 +17,5 @@ the-bridge = record {
   of-tick = λ l F d s r l′ t. tick-bridge l F d s _ l′ (t .answer) (t .book);
   of-take = λ l F d s from r l′ t. take-bridge l F d s from _ l′ (t .answer) (t .book);
   of-refresh = λ l F d s r l′ t. refresh-bridge l F d s _ l′ (t .answer) (t .book);
+  of-move = λ l F c d r l′ t. move-bridge l F c d _ l′ (t .answer) (t .book);
 }

@@ -1,18 +1,23 @@
 -- The demands of books, all together: nothing is assumed but that a setup was done.
 -- Assumes nothing.
 use Prim.Native.Nat.{ℕ}
-use mathlib.Core.Path.{_≡_, _∙_, ap}
+use mathlib.Core.Path.{_≡_, refl, _∙_, ap}
 use mathlib.Core.List.{List, [], _∷_, _++_}
 use Rattle.book.specs.declared.parts.Counts.{Counts}
+use Rattle.book.specs.Layout.{home}
 use Rattle.register.specs.Table.{setupNumber}
-use Rattle.paper.specs.Calls.{Answer}
-use Rattle.upkeep.specs.Requests.{Request, replyTo, bookAfter}
+use Rattle.register.specs.Promises as promises
+use Rattle.register.proofs.MoveTable.{move-stays}
+use Rattle.shelf.proofs.FrameLaws.{pick-cases}
+use Rattle.paper.specs.Calls.{move, Answer}
+use Rattle.upkeep.specs.Requests.{Request, call, replyTo, changedBy, bookAfter}
 use Rattle.line.specs.Reading.{Reading}
 use Rattle.events.specs.Answering as events
 use Rattle.reply.specs.Printed.{printed}
 use Rattle.events.specs.Answering.{lineFeed, eventSays, eventBook, readingSays, readingBook, answerTo}
 use Rattle.model.specs.System.{after}
 use Rattle.model.proofs.TheDemands as met
+use Rattle.model.proofs.Moves.{moves}
 use Rattle.model.proofs.Transfer as transfer
 use Rattle.bridge.specs.View.{toModel}
 use Rattle.bridge.specs.Demands.{bookOf, DeskAsModel, Demands}
@@ -33,7 +38,13 @@ desk-as-model l n homes done = record {
   leaves = λ h line e ns q r a. ap (readingBook (bookOf n homes h)) r ∙ ap (bookAfter (bookOf n homes h)) a;
 }
 
+-- a move to the present home moves not one word, done or refused
+move-nothing : (l : List ℕ) (c : ℕ) → bookAfter l (call (move c (home l c))) ≡ l
+unfolding bookAfter changedBy promises.after
+move-nothing l c = pick-cases (λ (m : List ℕ). m ≡ l) _ _ l (λ z. move-stays l c) λ z. refl
+
 pub the-demands : (l : List ℕ) (n : Counts) (homes : List ℕ) → setupNumber l n homes ≡ 0 → Demands n homes
+unfolding after
 the-demands l n homes done =
     let follows = book-follows l n homes done in
     let others = transfer.demands-from follows (sound-by (toModel n) _ _ (agrees-start l n homes done) .small .shelf) (met.the-demands (toModel n) homes (setup-model (setup-open l n homes done))) in
@@ -42,5 +53,6 @@ the-demands l n homes done =
       as-model = record { numbers = λ h q. transfer.alike follows h .number q; answers = λ h q. transfer.alike follows h .answer q; leaves = λ h. followed l n homes done h .views };
       desk = desk-as-model l n homes done;
       others = others;
+      moves = transfer.moves-from follows (λ h c hc. move-nothing (bookOf n homes h) c) (moves (toModel n) homes (setup-model (setup-open l n homes done)));
       dates = dates-exist n homes (others .besides);
     }

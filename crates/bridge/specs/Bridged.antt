@@ -16,7 +16,7 @@ use Rattle.paper.specs.declared.answer.Answer as plain
 use Rattle.paper.specs.declared.answer.ReadAnswer.{ReadAnswer}
 use Rattle.paper.specs.declared.answer.WriteAnswer.{WriteAnswer}
 use Rattle.model.specs.Parts.{fresh}
-use Rattle.paper.specs.Calls.{Call, read, write, tick, take, refresh, Answer, done, answerBy}
+use Rattle.paper.specs.Calls.{Call, read, write, tick, take, refresh, move, Answer, done, answerBy}
 use Rattle.model.specs.Calls.{setup, step}
 use Rattle.bridge.specs.View.{toModel, countsIn, view}
 
@@ -48,3 +48,4 @@ pub record Bridge : Type 0 where
       → Bridged l (take d s from) (paper r) l′
   pub of-refresh : (l : List ℕ) → fit l ≡ true → (d s : ℕ) (r : plain.Answer) (l′ : List ℕ) → promises.Refresh l d s r l′
       → Bridged l (refresh d s) (paper r) l′
+  pub of-move : (l : List ℕ) → fit l ≡ true → (c d : ℕ) (r : plain.Answer) (l′ : List ℕ) → promises.Move l c d r l′ → Bridged l (move c d) (paper r) l′

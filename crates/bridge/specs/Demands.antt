@@ -11,8 +11,7 @@ use Rattle.book.specs.declared.parts.Counts.{Counts}
 use Rattle.book.specs.Layout.{countsOf, home, linkOf, held, taken, stored}
 use Rattle.fit.specs.Fit.{fit}
 use Rattle.register.specs.Answers.{told}
-use Rattle.register.specs.Calls.{setUp}
-use Rattle.paper.specs.Calls.{Call, read, Answer, reads}
+use Rattle.paper.specs.Calls.{Call, read, move, Answer, reads}
 use Rattle.paper.specs.declared.request.Event.{Event}
 use Rattle.line.specs.Reading.{good, reading}
 use Rattle.events.specs.Answering as events
@@ -26,6 +25,7 @@ use Rattle.calendar.specs.declared.answers.DateAnswer.the-variants.{On}
 use Rattle.model.specs.Calls.{refusal, step}
 use Rattle.model.specs.System.{after, ofModel}
 use Rattle.model.specs.Demands as demands
+use Rattle.model.specs.Moves as moves
 use Rattle.bridge.specs.View.{toModel, view}
 use Rattle.upkeep.specs.Requests.{Request, call, Called, numberAt, replyTo, bookAfter}
 use Rattle.bridge.specs.Systems.{ofBooks}
@@ -42,10 +42,12 @@ module _ (n : Counts) (homes : List ℕ) where
   bookOf h = after (ofBooks n homes) h
 
   pub record Demand1 : Type 0 where
-    -- after every history the book is fit, with the counts and homes of its setup
+    -- after every history the book is fit, with the counts of its setup
     pub fits : (h : List Call) → fit (bookOf h) ≡ true
     pub counts : (h : List Call) → countsOf (bookOf h) ≡ n
-    pub homed : (h : List Call) (c : ℕ) → c < n .crews → home (bookOf h) c ≡ home (setUp n homes) c
+    -- each home is a depot, and by no call but its crew's move does it become another
+    pub homed : (h : List Call) (c : ℕ) → c < n .crews → home (bookOf h) c < n .depots
+    pub home-stays : (h : List Call) (q : Call) (c : ℕ) → c < n .crews → ((d : ℕ) → q ≡ move c d → ⊥) → home (bookOf (q ∷ h)) c ≡ home (bookOf h) c
     -- no more messages of a link are taken than it holds
     pub taken-held : (h : List Call) (s o d : ℕ) → s < n .shelves → o < n .depots → d < n .depots → (o ≡ d → ⊥)
         → taken (bookOf h) (linkOf s o d) ≤ held (bookOf h) (linkOf s o d)
@@ -82,4 +84,5 @@ module _ (n : Counts) (homes : List ℕ) where
     pub as-model : AsModel
     pub desk : DeskAsModel
     pub others : demands.Demands (toModel n) (ofBooks n homes)
+    pub moves : moves.Moves (toModel n) (ofBooks n homes)
     pub dates : DatesExist

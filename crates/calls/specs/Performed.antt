@@ -3,7 +3,7 @@
 use Prim.Native.Nat.{ℕ}
 use mathlib.Core.Path.{_≡_}
 use mathlib.Core.List.{List}
-use Rattle.paper.specs.Calls.{read, write, tick, take, refresh}
+use Rattle.paper.specs.Calls.{read, write, tick, take, refresh, move}
 use Rattle.paper.specs.Answers.{onPaper, Holds}
 use Rattle.paper.specs.Requests.{requestIn, homesIn}
 use Rattle.paper.specs.declared.answer.Reply.{Reply}
@@ -19,6 +19,7 @@ asked (request.Request.Write c k payload) homes = call (write c k payload)
 asked (request.Request.Tick d s) homes = call (tick d s)
 asked (request.Request.Take d s from) homes = call (take d s from)
 asked (request.Request.Refresh d s) homes = call (refresh d s)
+asked (request.Request.Move c d) homes = call (move c d)
 
 -- and that an event with its numbers asks
 unfoldable pub requestOf : Event → List ℕ → Request

@@ -6,6 +6,7 @@ use paper::answer::Reply;
 use paper::request::Request;
 use read::read;
 use refresh::refresh;
+use rehome::move_crew;
 use setup::setup;
 use take::take;
 use tick::tick;
@@ -32,5 +33,6 @@ pub fn perform(book: &mut [u32], request: Request, homes: &[u32]) -> Reply
         Request::Tick { depot, shelf } => answered(tick(book, depot, shelf)),
         Request::Take { depot, shelf, from } => answered(take(book, depot, shelf, from)),
         Request::Refresh { depot, shelf } => answered(refresh(book, depot, shelf)),
+        Request::Move { crew, depot } => answered(move_crew(book, crew, depot)),
     }
 }

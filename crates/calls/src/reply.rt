@@ -20,7 +20,7 @@ fn bare(outcome: Outcome) -> Reply
     }
 }
 
-// The reply to a setup, a tick, a take or a refresh.
+// The reply to a setup, a tick, a take, a refresh or a move.
 pub fn answered(answer: Answer) -> Reply
     ensures { λ r. ⌜ (onPaper r ≡ paper answer) × Holds (onPaper r) (r .vector) (r .depots) ⌝ }
 {

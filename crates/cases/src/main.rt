@@ -8,10 +8,15 @@ use book::numbers::Depot;
 use book::numbers::Shelf;
 use book::parts::set_clock;
 use libc::STDOUT_FILENO;
+use paper::answer::Answer;
+use paper::number::number_of;
+use rehome::move_crew;
 use reply::ANSWER_ROOM;
 use script::is_word;
 use script::repeated;
 use script::runs;
+use who::WhoAnswer;
+use who::who_has;
 use whole::is_fit;
 ghost use mathlib.Core.Path.{_≡_};
 ghost use Prim.Native.Nat.{_≤_};
@@ -275,6 +280,89 @@ fn case_m(book: &mut [u32], out: &mut [u8]) -> bool
     written && refused && ordered
 }
 
+// Whether these depots, so many of them, have depot d's version of a bearing.
+fn is_told(book: &[u32], depot: u32, bearing: u32, depots: u32, number: u32) -> bool {
+    match who_has(book, depot, bearing) {
+        WhoAnswer::Has { mask, count } => mask == depots && count == number,
+        WhoAnswer::Refused(_) => false,
+    }
+}
+
+// (n) who has it: at the listing's end both depots have depot 0's 20, depot 0 alone its 30, and all have what depot 1 has of that bearing, unwritten. After (a) and (b) both have the 30.
+fn case_n(book: &mut [u32], out: &mut [u8]) -> bool
+    requires { ⌜ answerRoom ≤ length (now out) ⌝ }
+{
+    let listed = listing(book, out);
+    let both = is_told(book, 0, 0, 3, 2);
+    let one = is_told(book, 0, 1, 1, 1);
+    let unwritten = is_told(book, 1, 1, 3, 2);
+    let shown = runs(
+        book,
+        out,
+        b"R 1 0\n0 20 1065353216 1065353216 1 0\nT 1 1 0\n0\nF 1 1\n0\nK 0 0\n0\nT 1 0 0\n0\nF 1 1\n0\n",
+    );
+    listed && both && one && unwritten && shown && is_told(book, 0, 1, 3, 2)
+}
+
+// Whether a crew's move to a depot has this number.
+fn is_moved(book: &mut [u32], crew: u32, depot: u32, number: u32) -> bool {
+    match move_crew(book, crew, depot) {
+        Answer::Done => number == 0,
+        Answer::Refused(r) => number_of(r) == number,
+    }
+}
+
+// The numbers of a move: depot 1 has not seen what crew 0 wrote, its home is always open, and there is no crew 2 and no depot 2.
+fn is_barred(book: &mut [u32]) -> bool {
+    let unseen = is_moved(book, 0, 1, 12);
+    let present = is_moved(book, 0, 0, 0);
+    let crew = is_moved(book, 2, 2, 5);
+    let depot = is_moved(book, 0, 2, 2);
+    unseen && present && crew && depot
+}
+
+// It is let in when both shelves there have seen it, and not when one has.
+fn moves_there(book: &mut [u32], out: &mut [u8]) -> bool
+    requires { ⌜ answerRoom ≤ length (now out) ⌝ }
+{
+    let taken = runs(book, out, b"T 1 0 0\n0\n");
+    let behind = is_moved(book, 0, 1, 12);
+    let seen = runs(book, out, b"K 0 1\n0\nT 1 1 0\n0\n");
+    let there = is_moved(book, 0, 1, 0);
+    taken && behind && seen && there
+}
+
+// There it reads what it wrote and writes on it; back it goes when depot 0 has seen that.
+fn moves_back(book: &mut [u32], out: &mut [u8]) -> bool
+    requires { ⌜ answerRoom ≤ length (now out) ⌝ }
+{
+    let read = runs(
+        book,
+        out,
+        b"R 0 0\n0 20 1065353216 1065353216 1 0\nW 0 0 30 1065353216 1065353216\n0 1 C\nR 0 0\n0 30 1065353216 1065353216 1 1\n",
+    );
+    let early = is_moved(book, 0, 0, 12);
+    let sent = runs(book, out, b"K 1 1\n0\nT 0 0 1\n0\nT 0 1 1\n0\n");
+    let back = is_moved(book, 0, 0, 0);
+    let ended = runs(book, out, b"R 0 0\n0 30 1065353216 1065353216 1 1\n");
+    read && early && sent && back && ended
+}
+
+// (o) a crew changes depot, there and back.
+fn case_o(book: &mut [u32], out: &mut [u8]) -> bool
+    requires { ⌜ answerRoom ≤ length (now out) ⌝ }
+{
+    let written = runs(
+        book,
+        out,
+        b"S 2 2 4 2 0 1\n0\nW 0 0 20 1065353216 1065353216\n0 1 C\n",
+    );
+    let barred = is_barred(book);
+    let there = moves_there(book, out);
+    let back = moves_back(book, out);
+    written && barred && there && back
+}
+
 // (?) what must not pass: a wrong number, an answer that is cut, one that goes on, and a wrong word. Each is told as different.
 fn wrong_answers(book: &mut [u32], out: &mut [u8]) -> bool
     requires { ⌜ answerRoom ≤ length (now out) ⌝ }
@@ -328,11 +416,20 @@ fn from_requests(book: &mut [u32], out: &mut [u8])
     tell(b'm', case_m(book, out));
 }
 
+// Those of calls that are no lines.
+fn from_calls(book: &mut [u32], out: &mut [u8])
+    requires { ⌜ answerRoom ≤ length (now out) ⌝ }
+{
+    tell(b'n', case_n(book, out));
+    tell(b'o', case_o(book, out));
+}
+
 fn main() {
     let mut book = [0u32; BOOK_WORDS];
     let mut out = [0u8; ANSWER_ROOM];
     from_listing(&mut book, &mut out);
     from_setup(&mut book, &mut out);
     from_requests(&mut book, &mut out);
+    from_calls(&mut book, &mut out);
     tell(b'?', wrong_answers(&mut book, &mut out));
 }

@@ -13,7 +13,7 @@ use Rattle.loops.specs.Loops.{pick}
 use Rattle.order.specs.Record.{vectorOf}
 use Rattle.book.specs.Layout.{countsOf}
 use Rattle.shelf.proofs.FrameLaws.{pick-cases}
-use Rattle.paper.specs.Calls.{read, write, tick, take, refresh, Answer, answerBy}
+use Rattle.paper.specs.Calls.{read, write, tick, take, refresh, move, Answer, answerBy}
 use Rattle.paper.specs.Answers.{entriesIn}
 use Rattle.paper.specs.declared.request.Event.{Event}
 use Rattle.register.specs.Answers.{cut, written}
@@ -95,6 +95,7 @@ done-few l (call (write c k payload)) = written-few _ _
 done-few l (call (tick d s)) = omega arith
 done-few l (call (take d s from)) = omega arith
 done-few l (call (refresh d s)) = omega arith
+done-few l (call (move c d)) = omega arith
 
 reply-few : (l : List ℕ) (r : Request) → length (entriesIn (replyTo l r)) ≤ 4
 unfolding replyTo answerBy entriesIn

@@ -2,6 +2,7 @@
 -- Assumes nothing.
 use mathlib.Core.Path.{_∙_, sym}
 use Rattle.loops.specs.Settled.{Settled}
+use Rattle.judged.proofs.NumberLaws.{audited-unique}
 use Rattle.events.proofs.answer.answer_line.Kinds as answer-line-kinds
 use Rattle.events.proofs.answer.answer_line.Reads as answer_line
 use Rattle.export.proofs.depot_setup.Kinds as setup-kinds
@@ -18,12 +19,16 @@ use Rattle.export.proofs.depot_take.Kinds as take-kinds
 use Rattle.export.proofs.depot_take.Reads as depot_take
 use Rattle.export.proofs.depot_refresh.Kinds as refresh-kinds
 use Rattle.export.proofs.depot_refresh.Reads as depot_refresh
+use Rattle.export.proofs.depot_who_has.Kinds as who-has-kinds
+use Rattle.export.proofs.depot_who_has.Reads as depot_who_has
 use Rattle.export.proofs.depot_is_fit.Kinds as is-fit-kinds
 use Rattle.export.proofs.depot_is_fit.Reads as depot_is_fit
 use Rattle.export.proofs.depot_greater.Kinds as greater-kinds
 use Rattle.export.proofs.depot_greater.Reads as depot_greater
 use Rattle.export.proofs.depot_line.Kinds as line-kinds
 use Rattle.export.proofs.depot_line.Reads as depot_line
+use Rattle.export.proofs.audit.depot_audit.Kinds as audit-kinds
+use Rattle.export.proofs.audit.depot_audit.Reads as depot_audit
 use Rattle.export.proofs.days.depot_is_date.Kinds as is-date-kinds
 use Rattle.export.proofs.days.depot_is_date.Reads as depot_is_date
 use Rattle.export.proofs.days.depot_day_number.Kinds as day-number-kinds
@@ -59,6 +64,9 @@ take-unique κs args one other end end′ p q = p .0 ∙ sym (q .0)
 pub refresh-unique : Settled 1 refresh-kinds.ps refresh-kinds.r depot_refresh.Learnt
 refresh-unique κs args one other end end′ p q = p .0 ∙ sym (q .0)
 
+pub who-has-unique : Settled 2 who-has-kinds.ps who-has-kinds.r depot_who_has.Learnt
+who-has-unique κs args one other end end′ p q = p .0 ∙ sym (q .0)
+
 -- the whole book's check, the greater of two records, a line
 pub is-fit-unique : Settled 1 is-fit-kinds.ps is-fit-kinds.r depot_is_fit.Learnt
 is-fit-unique κs args one other end end′ p q = p ∙ sym q
@@ -81,3 +89,7 @@ date-of-unique κs args one other end end′ p q = p .0 ∙ sym (q .0)
 
 pub next-date-unique : Settled 1 next-date-kinds.ps next-date-kinds.r depot_next_date.Learnt
 next-date-unique κs args one other end end′ p q = p .0 ∙ sym (q .0)
+
+-- the auditor
+pub audit-unique : Settled 1 audit-kinds.ps audit-kinds.r depot_audit.Learnt
+audit-unique κs args one other end end′ p q = audited-unique p q

@@ -1,9 +1,12 @@
 // The register as C calls it: each function makes one call and gives the number of its answer. include/depot_register.h declares them.
+pub mod audit;
 pub mod days;
+pub mod moves;
 
 use book::parts::wide;
 use calls::reply::answered;
 use events::answer::answer_line;
+use holders::tell_who;
 use order::record::MOST_DEPOTS;
 use order::record::exceeds;
 use paper::answer::Payload;
@@ -28,6 +31,8 @@ ghost use Rattle.upkeep.specs.Requests.{setup, call, numberAt, replyTo, bookAft
 ghost use Rattle.room.specs.Room.{noRoom, inRoom, filled};
 ghost use Rattle.card.specs.Card.{gramsAnswer, gramsNumber};
 ghost use Rattle.telling.specs.Told.{readWords, writeWords, gramsWords, wordsOf, gramsOut};
+ghost use Rattle.who.specs.Who.{whoTold};
+ghost use Rattle.holders.specs.Told.{whoWords, toldNumber, toldOut};
 ghost use Rattle.reply.specs.Printed.{answerRoom};
 ghost use Rattle.events.specs.Answering as events;
 ghost use Rattle.events.specs.Answering.{answerTo};
@@ -100,7 +105,8 @@ pub extern "C" fn depot_write(
     ensures { λ r. ⌜ now (book .exit)
         ≡ inRoom writeWords (now (out .entry)) (bookAfter (now (book .entry)) (call (write crew bearing (record { value = value; diameter = diameter; width = width })))) (now (book .entry)) ⌝ }
     ensures { λ r. ⌜ now (out .exit)
-        ≡ inRoom writeWords (now (out .entry)) (filled (wordsOf (replyTo (now (book .entry)) (call (write crew bearing (record { value = value; diameter = diameter; width = width }))))) (now (out .entry))) (now (out .entry)) ⌝ }
+        ≡ inRoom writeWords (now (out .entry)) (filled (wordsOf (replyTo (now (book .entry)) (call (write crew bearing
+        (record { value = value; diameter = diameter; width = width }))))) (now (out .entry))) (now (out .entry)) ⌝ }
 {
     let payload = Payload {
         value,
@@ -117,6 +123,14 @@ pub extern "C" fn depot_grams(diameter: u32, width: u32, out: &mut [u32]) -> u32
     ensures { λ r. ⌜ now (out .exit) ≡ inRoom gramsWords (now (out .entry)) (filled (gramsOut (gramsAnswer diameter width)) (now (out .entry))) (now (out .entry)) ⌝ }
 {
     tell_grams(diameter, width, out)
+}
+
+#[no_mangle]
+pub extern "C" fn depot_who_has(book: &[u32], depot: u32, bearing: u32, out: &mut [u32]) -> u32
+    ensures { λ r. ⌜ r ≡ inRoom whoWords (now (out .entry)) (toldNumber (whoTold (now (book .entry)) depot bearing)) noRoom ⌝ }
+    ensures { λ r. ⌜ now (out .exit) ≡ inRoom whoWords (now (out .entry)) (toldOut (whoTold (now (book .entry)) depot bearing) (now (out .entry))) (now (out .entry)) ⌝ }
+{
+    tell_who(book, depot, bearing, out)
 }
 
 #[no_mangle]

@@ -12,7 +12,7 @@ use Rattle.loops.proofs.BoolLaws.{decided, eq-or-ne, pick-true, pick-false}
 use Rattle.model.specs.Parts.{Counts, Version, Write, copy, Shelf, State, rank, stamp, unwritten, greater, setCrew}
 use Rattle.model.specs.Rules.{keeping, storing, keep, send, settle}
 use Rattle.paper.specs.declared.answer.Payload.{Payload}
-use Rattle.paper.specs.Calls.{Call, read, write, tick, take, refresh, Answer, numberIn, current, superseded}
+use Rattle.paper.specs.Calls.{Call, read, write, tick, take, refresh, move, Answer, numberIn, current, superseded}
 use Rattle.model.specs.Calls.{Outcome, shelfOf, homeShelf, answered, made, refusal, reading, acted, step}
 use Rattle.model.specs.System.{ofModel, run}
 use Rattle.model.specs.Demands.{Wrote, now, Made, WriteAnswers}
@@ -32,6 +32,7 @@ module _ (π : Counts) where
   acted-number σ (tick d s) = refl
   acted-number σ (take d s o) = refl
   acted-number σ (refresh d s) = refl
+  acted-number σ (move c d) = refl
 
   pub step-number : (σ : State) (q : Call) → numberIn (step π σ q .answer) ≡ refusal π σ q
   unfolding numberIn

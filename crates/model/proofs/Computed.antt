@@ -10,11 +10,11 @@ use Rattle.loops.specs.Loops.{times, every, pick}
 use Rattle.card.specs.Card.{lengthFit, cardFit}
 use Rattle.order.specs.Vector.{Vec, merged, covered, zeros, agree}
 use Rattle.order.specs.Order.{Rank, above}
-use Rattle.model.specs.Parts.{Counts, Version, Write, copy, Shelf, State, put, rank, greater, setShelf, setCrew, lowest, other, stampOf, unwritten, emptyShelf, fresh, end, room}
+use Rattle.model.specs.Parts.{Counts, Version, Write, copy, Shelf, State, put, rank, greater, setShelf, setCrew, setHome, lowest, other, stampOf, unwritten, emptyShelf, fresh, end, room}
 use Rattle.model.specs.Rules.{raised, keeping, clear, shownOf, left, shown, settled, settle, storing, keep, ticked, receiving, heldOf, taking, holds, emit, send, roomy, lowestSeen}
 use Rattle.paper.specs.declared.answer.Payload.{Payload}
-use Rattle.paper.specs.Calls.{Call, read, write, tick, take, refresh, Answer, refused, done, current, superseded, first}
-use Rattle.model.specs.Calls.{Outcome, entries, told, none, shelfOf, homeShelf, answered, made, refusal, reading, acted, step, answers, ends}
+use Rattle.paper.specs.Calls.{Call, read, write, tick, take, refresh, move, Answer, refused, done, current, superseded, first}
+use Rattle.model.specs.Calls.{Outcome, entries, told, none, shelfOf, homeShelf, answered, made, arrived, refusal, reading, acted, step, answers, ends}
 
 unfoldable pub refreshFrom : ℕ → ℕ → State → Shelf → Outcome
 refreshFrom d s σ g = record { answer = done; state = setShelf d s g σ }
@@ -60,6 +60,7 @@ module _ (higher : ℕ → Rank → Rank → Bool) where
     actedBy σ (write c k p) = writeFrom c k p σ (settledBy (π .depots) (σ .home c) (σ .crew c) (σ .shelf (σ .home c) (shelfOf π k)))
     actedBy σ (tick d s) = acted π σ (tick d s)
     actedBy σ (take d s o) = acted π σ (take d s o)
+    actedBy σ (move c d) = acted π σ (move c d)
     actedBy σ (refresh d s) = refreshFrom d s σ (settledBy (π .depots) d (lowestSeen π d σ) (σ .shelf d s))
 
     unfoldable pub stepBy : State → Call → Outcome
@@ -77,9 +78,9 @@ module _ (higher : ℕ → Rank → Rank → Bool) where
 unfoldable pub answersNow : (ℕ → Rank → Rank → Bool) → Counts → State → List Call → List Answer
 unfolding zeros agree times every pick covered merged
     cardFit lengthFit lt le ofBits
-    put lowest other stampOf unwritten emptyShelf fresh setShelf setCrew end room
+    put lowest other stampOf unwritten emptyShelf fresh setShelf setCrew setHome end room
     raised clear left ticked receiving heldOf taking holds lowestSeen emit send roomy
-    entries told first none shelfOf made refusal reading acted
+    entries told first none shelfOf made arrived refusal reading acted
     refreshFrom keepingBy shownBy settledBy storingBy writeFrom actedBy stepBy answersBy
 answersNow f π σ l = answersBy f π σ l
 
@@ -110,6 +111,7 @@ module _ (π : Counts) where
   acted-is σ (write c k p) = ap (writeFrom above π c k p σ) (settled-is _ _ _ _)
   acted-is σ (tick d s) = refl
   acted-is σ (take d s o) = refl
+  acted-is σ (move c d) = refl
   acted-is σ (refresh d s) = ap (λ (g : Shelf). refreshFrom d s σ g) (settled-is _ _ _ _)
 
   step-is : (σ : State) (q : Call) → stepBy above π σ q ≡ step π σ q

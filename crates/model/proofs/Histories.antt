@@ -9,14 +9,14 @@ use borrow.Author.Tests.{eq-eqb, ne-eqb}
 use Rattle.loops.proofs.BoolLaws.{eq-or-ne, pick-true, pick-false}
 use Rattle.model.specs.Parts.{Counts, Write, State, fresh, emptyShelf, unwritten}
 use Rattle.paper.specs.declared.answer.Payload.{Payload}
-use Rattle.paper.specs.Calls.{Call, read, write, tick, take, refresh, refused}
+use Rattle.paper.specs.Calls.{Call, read, write, tick, take, refresh, move, refused}
 use Rattle.model.specs.Calls.{Outcome, made, refusal, acted, step}
 use Rattle.model.specs.System.{ofModel, after, run}
 use Rattle.model.specs.Demands.{Wrote, MadeAt, now, earlier, Made}
 use Rattle.model.proofs.Chains.{chain-start}
 use Rattle.model.proofs.Invariant.{Good, Grows, Sound, Change, grows-refl, grows-trans, good-changes, sound-more, change-more, change-none}
-use Rattle.model.proofs.Refusals.{WritePassed, read-passed, write-passed, tick-passed, take-passed, refresh-passed, SetUp, shelf-below}
-use Rattle.model.proofs.Steps.{read-done, write-done, write-good, tick-done, take-done, refresh-done}
+use Rattle.model.proofs.Refusals.{WritePassed, read-passed, write-passed, tick-passed, take-passed, refresh-passed, move-passed, SetUp, shelf-below}
+use Rattle.model.proofs.Steps.{read-done, write-done, write-good, tick-done, take-done, refresh-done, move-done}
 
 pub step-done : (π : Counts) (σ : State) (q : Call) → refusal π σ q ≡ 0 → step π σ q ≡ acted π σ q
 unfolding step
@@ -96,6 +96,10 @@ module _ (π : Counts) (homes : List ℕ) where
     }
     kept-done h (refresh d s) i e = record {
       change = change-more π made-more (refresh-done π (Made (ofModel π homes) h) (run π homes h) (i .sound) (refresh-passed π _ d s e));
+      wrote = λ b w t. absurd (let call = t .makes .1 in let n : _≡_ {A = ℕ} 0 1 = cc in omega arith);
+    }
+    kept-done h (move c d) i e = record {
+      change = change-more π made-more (move-done π (Made (ofModel π homes) h) (run π homes h) (i .sound) (move-passed π _ c d e));
       wrote = λ b w t. absurd (let call = t .makes .1 in let n : _≡_ {A = ℕ} 0 1 = cc in omega arith);
     }
 

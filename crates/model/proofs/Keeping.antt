@@ -1,4 +1,4 @@
--- Two changes that no link sees: a crew's new vector, and a version stored if greater.
+-- Three changes that no link sees: a crew's new vector, its new home, and a version stored if greater.
 -- Assumes nothing.
 use Prim.Native.Nat.{ℕ, _≤_, _<_}
 use native.Mathlib.Omega.{arith}
@@ -7,7 +7,7 @@ use mathlib.Core.Path.{_≡_, refl, sym, subst, subst₃}
 use mathlib.Core.Logic.{_⊎_, inr}
 use mathlib.Core.List.{List, List·Memᴰ}
 use Rattle.order.specs.Vector.{Vec}
-use Rattle.model.specs.Parts.{Counts, Write, Message, copy, Shelf, State, setShelf, setCrew, unwritten}
+use Rattle.model.specs.Parts.{Counts, Write, Message, copy, Shelf, State, setShelf, setCrew, setHome, unwritten}
 use Rattle.model.specs.Rules.{storing, keep}
 use Rattle.model.proofs.Places.{put-all, Other, setShelf-all, setShelf-same, setShelf-here}
 use Rattle.model.proofs.Showing.{AtMost, atMost-refl, atMost-trans, keeping-rises, keeping-has, keeping-all}
@@ -42,6 +42,29 @@ module _ (π : Counts) (M : Write → Type 0) (σ : State) (z : Sound π M σ) (
       again w d (stored t) = stored t
       again w d (held o m) = held o m
       again w d (coming o m) = coming o m
+
+module _ (π : Counts) (M : Write → Type 0) (σ : State) (z : Sound π M σ) (c d : ℕ) (rests : Rests π σ d (σ .crew c)) where
+  home-grows : Grows π σ (setHome c d σ)
+  unfolding setHome
+  home-grows = record { clock = λ d s. le-refl _; stable = λ d s x. le-refl _; seen = λ d s x. le-refl _; store = λ d s k. atMost-refl; crew = λ c x. le-refl _ }
+
+  pub home-changes : Change π M σ (setHome c d σ)
+  unfolding setHome
+  home-changes = record {
+    sound = record {
+      shelf = z .shelf;
+      chain = z .chain;
+      stable = z .stable;
+      crews = λ b hb. rests-grows π home-grows (put-all (λ b e. b < π .crews → Rests π σ e (σ .crew b)) c (λ hb. rests) (λ b apart hb. z .crews b hb) b hb);
+    };
+    grows = home-grows;
+    stands = λ w d hd t. again w d t;
+  }
+    where
+      again : (w : Write) (e : ℕ) → Stands π σ w e → Stands π (setHome c d σ) w e
+      again w e (stored t) = stored t
+      again w e (held o m) = held o m
+      again w e (coming o m) = coming o m
 
 module _ (π : Counts) (M : Write → Type 0) (σ : State) (z : Sound π M σ) (d s : ℕ) (hd : d < π .depots) (hs : s < π .shelves) (w : Write) (made : M w)
     (covers : (x : ℕ) → Other (π .depots) d x → w .version .vector x ≤ σ .shelf d s .stable x) where

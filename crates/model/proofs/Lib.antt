@@ -22,6 +22,7 @@ pub mod Rounds
 pub mod Waiting
 pub mod Possible
 pub mod Demand3
+pub mod Moves
 pub mod TheDemands
 pub mod Everywhere
 pub mod Transfer
@@ -31,3 +32,4 @@ pub mod Worked
 pub mod PastWorked
 pub mod RoundsWorked
 pub mod Witnesses
+pub mod MoveWorked

@@ -10,9 +10,9 @@ use mathlib.Core.List.{List, [], _∷_, _++_}
 use lib.ListN.{length, length-append}
 use Rattle.order.specs.Vector.{Vec}
 use Rattle.loops.proofs.BoolLaws.{eq-or-ne}
-use Rattle.model.specs.Parts.{Counts, Write, Message, copy, heartbeat, Shelf, State, fresh, emptyShelf, setShelf, setCrew, room}
+use Rattle.model.specs.Parts.{Counts, Write, Message, copy, heartbeat, Shelf, State, fresh, emptyShelf, setShelf, setCrew, setHome, room}
 use Rattle.model.specs.Rules.{left, shown, settled, settle, storing, keep, ticked, receiving, send, heldOf, taking, holds}
-use Rattle.paper.specs.Calls.{Call, read, write, tick, take, refresh}
+use Rattle.paper.specs.Calls.{Call, read, write, tick, take, refresh, move}
 use Rattle.model.specs.Calls.{setup, shelfOf, refusal, homeShelf, reading, acted}
 use Rattle.model.specs.System.{ofModel, after, run}
 use Rattle.model.specs.Demands.{Limits}
@@ -107,7 +107,7 @@ module _ (π : Counts) where
   write-elsewhere d s w c u v σ e o = elsewhere d s _ _ e o ∙ elsewhere d s _ σ e o
 
   acted-fits : (σ : State) (q : Call) → refusal π σ q ≡ 0 → AllFit σ → AllFit (acted π σ q .state)
-  unfolding acted reading homeShelf settle setCrew
+  unfolding acted reading homeShelf settle setCrew setHome
   acted-fits σ (read c k) e f = settle-fits _ _ _ σ f
   acted-fits σ (write c k v) e f = send-fits _ _ _ _
       (λ x o. subst (λ (g : Shelf). length (g .taken (σ .home c)) + length (g .untaken (σ .home c)) < 16) (sym (write-elsewhere (σ .home c) (shelfOf π k) _ c _ (σ .crew c) σ x o))
@@ -116,6 +116,7 @@ module _ (π : Counts) where
   acted-fits σ (tick d s) e f = send-fits d s _ σ (roomy-free π d s σ (tick-passed π σ d s e .room)) f
   acted-fits σ (take d s o) e f = setShelf-all (λ e r g. Fits e g) d s _ σ (taking-fits d o _ _ refl (f d s)) (λ e r apart. f e r)
   acted-fits σ (refresh d s) e f = settle-fits d s _ σ f
+  acted-fits σ (move c d) e f = f
 
   module _ (homes : List ℕ) where
     pub history-fits : (h : List Call) → AllFit (run π homes h)

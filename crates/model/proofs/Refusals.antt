@@ -2,23 +2,25 @@
 -- Assumes nothing.
 use Prim.Native.Nat.{ℕ, suc, _≤_, _<_}
 use native.Mathlib.Omega.{arith}
-use native.Mathlib.Nat.{mod-lt}
+use native.Mathlib.Nat.{mod-lt, le-trans}
 use mathlib.Core.Path.{_≡_, refl, sym, _∙_}
+use mathlib.Core.Logic.{_⊎_, inl, inr, ⊎-elim}
 use mathlib.Core.Bool.{Bool, true, false, not, _&&_, _||_}
 use mathlib.Core.List.{List, [], _∷_}
 use lib.Dec.{eqb, ltb, leb}
 use lib.ListN.{getD, length}
-use borrow.Author.Tests.{eqb-false, ltb-true, ltb-false, leb-true, leb-false, le-ltb, lt-leb, ne-eqb}
+use borrow.Author.Tests.{eqb-true, eqb-false, ltb-true, ltb-false, leb-true, leb-false, le-ltb, lt-leb, ne-eqb}
 use Rattle.loops.specs.Loops.{pick, every}
-use Rattle.loops.proofs.BoolLaws.{and-left, and-right, both-ways}
+use Rattle.loops.proofs.BoolLaws.{and-left, and-right, or-cases, both-ways}
 use Rattle.loops.proofs.LoopLaws.{every-at}
+use Rattle.order.proofs.VectorLaws.{covered-at}
 use Rattle.card.specs.Card.{cardFit}
 use Rattle.paper.specs.declared.answer.Payload.{Payload}
 use Rattle.model.specs.Parts.{Counts, Message, State, mostBearings, fresh, end}
-use Rattle.model.specs.Rules.{roomy}
-use Rattle.paper.specs.Calls.{lastDay, read, write, tick, take, refresh, first}
-use Rattle.model.specs.Calls.{none, within, setup, shelfOf, refusal}
-use Rattle.model.proofs.Places.{Other}
+use Rattle.model.specs.Rules.{roomy, lowestSeen}
+use Rattle.paper.specs.Calls.{lastDay, read, write, tick, take, refresh, move, first}
+use Rattle.model.specs.Calls.{none, within, setup, shelfOf, arrived, refusal}
+use Rattle.model.proofs.Places.{Other, lowest-below}
 
 -- no number comes from the first test, and none from the rest
 pub first-none : (t : Bool) (n : ℕ) (l : List (Bool × ℕ)) → first ((t, suc n) ∷ l) ≡ 0 → (t ≡ false) × (first l ≡ 0)
@@ -170,6 +172,33 @@ module _ (π : Counts) where
       let a = first-none (leb (π .depots) d) 1 _ e in
       let b = first-none (leb (π .shelves) s) 2 _ (a .1) in
       record { depot = leb-false _ _ (a .0); shelf = leb-false _ _ (b .0) }
+
+  pub record MovePassed (σ : State) (c d : ℕ) : Type 0 where
+    pub crew : c < π .crews
+    pub depot : d < π .depots
+    pub here : (d ≡ σ .home c) ⊎ ((r x : ℕ) → r < π .shelves → Other (π .depots) d x → σ .crew c x ≤ σ .shelf d r .seen x)
+
+  pub move-passed : (σ : State) (c d : ℕ) → refusal π σ (move c d) ≡ 0 → MovePassed σ c d
+  unfolding refusal arrived lowestSeen
+  move-passed σ c d e =
+      let a = first-none (leb (π .crews) c) 4 _ e in
+      let b = first-none (leb (π .depots) d) 1 _ (a .1) in
+      let t = first-none (not (eqb d (σ .home c) || arrived π d (σ .crew c) σ)) 11 _ (b .1) in
+      record {
+        crew = leb-false (π .crews) c (a .0);
+        depot = leb-false (π .depots) d (b .0);
+        here = ⊎-elim (λ (h : eqb d (σ .home c) ≡ true). inl (eqb-true _ _ h))
+            (λ (h : arrived π d (σ .crew c) σ ≡ true). inr (λ r x hr o. le-trans (covered-at (π .depots) d _ _ h x (o .below) (o .apart)) (lowest-below (π .shelves) _ r hr)))
+            (or-cases (eqb d (σ .home c)) (arrived π d (σ .crew c) σ) (not-none _ (t .0)));
+      }
+
+  -- who is not here yet is a crew, and asks for a depot
+  pub move-named : (σ : State) (c d : ℕ) → refusal π σ (move c d) ≡ 12 → (c < π .crews) × (d < π .depots)
+  unfolding refusal
+  move-named σ c d e =
+      let a = first-skips (leb (π .crews) c) 5 12 _ e (λ n. omega arith) in
+      let b = first-skips (leb (π .depots) d) 2 12 _ (a .1) (λ n. omega arith) in
+      (leb-false _ _ (a .0), leb-false _ _ (b .0))
 
   -- what a setup that is done has settled
   pub record SetUp (homes : List ℕ) : Type 0 where

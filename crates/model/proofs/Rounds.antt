@@ -12,6 +12,7 @@ use Rattle.model.specs.System.{ofModel, run}
 use Rattle.model.specs.Demands.{Made, Round, Rounds, begin, between, round, lowestClock}
 use Rattle.model.proofs.Places.{Other, lowest-below, lowest-end}
 use Rattle.model.proofs.Showing.{AtMost, atMost-trans}
+use Rattle.model.proofs.Chains.{chain-empty}
 use Rattle.model.proofs.Invariant.{Stands, stored, held, coming}
 use Rattle.model.proofs.Refusals.{SetUp, shelf-below, take-seven}
 use Rattle.model.proofs.Histories.{inv, history-grows, call-changes, made-more}
@@ -59,6 +60,17 @@ module _ (π : Counts) (homes : List ℕ) (u : SetUp π homes) where
         by (coming o i) = absurd (List·Memᴰ·not-nil (subst (λ l. List·Memᴰ (copy w) l)
             (empty d (shelfOf π (w .bearing)) (w .version .origin) hd (shelf-below π u (w .bearing)) (o .below) (o .apart)) i))
 
+    -- its takes leave the sender's clock as the stamp seen
+    pub round-sees : (o b : ℕ) → o < π .depots → Reached π homes g o b → (d s : ℕ) → d < π .depots → s < π .shelves → Other (π .depots) d o → b ≤ run π homes h .shelf d s .seen o
+    unfolding Empty Reached
+    round-sees o b ho t d s hd hs a =
+        let taken = r .takes ++ g in
+        let all = chain-empty _ _ (round-empty d s o hd hs (a .below) (a .apart)) (inv π homes u taken .sound .chain d s o hd hs a) in
+        let low = reached-later π homes u (r .takes) g o b t s hs in
+        let first = history-grows π homes u (r .refreshes) taken .seen d s o in
+        let last = history-grows π homes u (r .ticks) settledAt .seen d s o in
+        subst (λ h. b ≤ run π homes h .shelf d s .seen o) (sym (r .ends)) (omega arith)
+
   pub rounds-reach : {n : ℕ} {g h : List Call} → Rounds π (ofModel π homes) n g h → (o b : ℕ) → o < π .depots → b ≤ end → Reached π homes g o b → Reached π homes h o (min (b + n) end)
   unfolding Reached
   rounds-reach begin o b ho top t s hs = let a = t s hs in omega arith
@@ -88,3 +100,10 @@ module _ (π : Counts) (homes : List ℕ) (u : SetUp π homes) where
       let good = inv π homes u g .good w m in
       let stamped = good .rests .top (w .version .origin) (good .rests .depot) in
       round-delivers i (min (b + k) end) w (rounds-made r m) (rounds-reach r (w .version .origin) b (good .rests .depot) top t) (omega arith) d hd
+
+  -- after one round more than the clocks of depot o need, every shelf has seen it
+  pub rounds-see : {m n : ℕ} {g h : List Call} → Rounds π (ofModel π homes) m g h → m ≡ suc n → (o b : ℕ) → o < π .depots → b ≤ end → Reached π homes g o b
+      → (d s : ℕ) → d < π .depots → s < π .shelves → Other (π .depots) d o → min (b + n) end ≤ run π homes h .shelf d s .seen o
+  rounds-see begin e o b ho top t d s hd hs a = absurd (omega arith)
+  rounds-see (between r) e o b ho top t d s hd hs a = le-trans (rounds-see r e o b ho top t d s hd hs a) (call-changes π homes u _ _ .grows .seen d s o)
+  rounds-see (round {n = k} r i) e o b ho top t d s hd hs a = let sees = round-sees i o (min (b + k) end) ho (rounds-reach r o b ho top t) d s hd hs a in omega arith

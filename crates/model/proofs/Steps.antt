@@ -12,16 +12,16 @@ use Rattle.loops.proofs.BoolLaws.{eq-or-ne}
 use Rattle.model.specs.Parts.{Counts, Version, Write, Message, copy, heartbeat, Shelf, State, stamp, stampOf, setShelf, setCrew, unwritten, end}
 use Rattle.model.specs.Rules.{settle, storing, keep, send, taking, lowestSeen}
 use Rattle.paper.specs.declared.answer.Payload.{Payload}
-use Rattle.paper.specs.Calls.{read, write, tick, take, refresh}
+use Rattle.paper.specs.Calls.{read, write, tick, take, refresh, move}
 use Rattle.model.specs.Calls.{none, shelfOf, homeShelf, answered, made, reading, acted}
 use Rattle.model.proofs.Places.{put-all, put-same, put-other, Other, setShelf-here, lowest-below}
 use Rattle.model.proofs.Showing.{AtMost, atMost-trans}
 use Rattle.model.proofs.Invariant.{Rests, stored, coming, Good, Copied, Sound, Change, changes, good-changes, rests-grows, stored-rests, merged-rests, sound-more, grows-trans}
 use Rattle.model.proofs.Settling.{raised-offered, settled-stable, settled-same, settle-changes}
 use Rattle.model.proofs.Taking.{take-changes}
-use Rattle.model.proofs.Keeping.{crew-changes, keep-changes, keep-has}
+use Rattle.model.proofs.Keeping.{crew-changes, home-changes, keep-changes, keep-has}
 use Rattle.model.proofs.Sending.{send-changes, send-comes, clock-here}
-use Rattle.model.proofs.Refusals.{WritePassed, TickPassed, TakePassed, RefreshPassed}
+use Rattle.model.proofs.Refusals.{WritePassed, TickPassed, TakePassed, RefreshPassed, MovePassed}
 
 module _ (π : Counts) (M : Write → Type 0) (σ : State) (z : Sound π M σ) where
   pub refresh-done : {d s : ℕ} → RefreshPassed π d s → Change π M σ (acted π σ (refresh d s) .state)
@@ -39,6 +39,16 @@ module _ (π : Counts) (M : Write → Type 0) (σ : State) (z : Sound π M σ) w
       go : (l : List Message) → σ .shelf d s .untaken o ≡ l → none l ≡ false → Change π M σ (setShelf d s (taking o (σ .shelf d s .untaken o) (σ .shelf d s)) σ)
       go [] e t = absurd (let t : _≡_ {A = ℕ} 0 1 = cc in omega arith)
       go (m ∷ l) e t = subst (λ y. Change π M σ (setShelf d s (taking o y (σ .shelf d s)) σ)) (sym e) (take-changes π M σ z d s o (p .depot) (p .shelf) (p .from) m l e)
+
+  pub move-done : {c d : ℕ} → MovePassed π σ c d → Change π M σ (acted π σ (move c d) .state)
+  unfolding acted
+  move-done {c} {d} p = home-changes π M σ z c d (⊎-elim
+      (λ (e : d ≡ σ .home c). subst (λ y. Rests π σ y (σ .crew c)) (sym e) was)
+      (λ seen. record { depot = p .depot; seen = seen; top = was .top })
+      (p .here))
+    where
+      was : Rests π σ (σ .home c) (σ .crew c)
+      was = z .crews c (p .crew)
 
   module _ (lies : (k : ℕ) → shelfOf π k < π .shelves) (c k : ℕ) (hc : c < π .crews) where
     abbrev d : ℕ

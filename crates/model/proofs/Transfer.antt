@@ -11,13 +11,14 @@ use Rattle.order.specs.Order.{above}
 use Rattle.order.proofs.VectorLaws.{covered-same}
 use Rattle.loops.proofs.LoopLaws.{times-same}
 use Rattle.model.specs.Parts.{Counts, Version, Write, rank, stamp, lowest, end, room}
-use Rattle.paper.specs.Calls.{Call, write, tick, take, numberIn}
+use Rattle.paper.specs.Calls.{Call, read, write, tick, take, move, numberIn}
 use Rattle.model.specs.Calls.{shelfOf}
 use Rattle.model.specs.System.{System, after}
 use Rattle.model.specs.Follows.{Alike, Follows}
 use Rattle.model.specs.Demands as demands
 use Rattle.model.specs.Demands.{AtLeast, Dated, Carded, Silent, Wrote, Got, MadeAt, now, earlier, Made, Past, wrote, got, kept, under}
 use Rattle.model.specs.Demands.{NotInvented, WriteAnswers, Demand2, Round, Rounds, lowestClock, Demand3, Limits, Demands}
+use Rattle.model.specs.Moves.{lowestStamp, Behind, Moves}
 
 -- a round of one system is a round of another that has the same numbers
 round-by : {π : Counts} {S T : System} → ((h : List Call) (q : Call) → T .number (after T h) q ≡ S .number (after S h) q) → {g h : List Call} → Round π S g h → Round π T g h
@@ -194,6 +195,62 @@ module _ {π : Counts} {S T : System} (f : Follows π S T) where
     stores-dated = λ h d k hd hk. subst Dated (sym (alike h .store d k hd hk)) (L .stores-dated h d k hd hk);
     carded = λ h w m. L .carded h w (made-to m);
     stores-carded = λ h d k hd hk. subst Carded (sym (alike h .store d k hd hk)) (L .stores-carded h d k hd hk);
+  }
+
+  -- ---- moves
+
+  lowest-stamp-same : (h : List Call) (d x : ℕ) → d < π .depots → x < π .depots → (x ≡ d → ⊥) → lowestStamp π S h d x ≡ lowestStamp π T h d x
+  unfolding lowest lowestStamp
+  lowest-stamp-same h d x hd hx n = times-same (π .shelves) _ _ end λ s m hs. ap (λ (t : ℕ). min m t) (alike h .seen d s x hd hs hx n)
+
+  behind-to : (h : List Call) (c d : ℕ) → c < π .crews → d < π .depots → Behind π S h c d → Behind π T h c d
+  behind-to h c d hc hd b = record {
+    from = b .from;
+    below = b .below;
+    apart = b .apart;
+    unseen = subst₂ (λ (x y : ℕ). x < y) (lowest-stamp-same h d _ hd (b .below) (b .apart)) (alike h .crew c _ hc (b .below)) (b .unseen);
+  }
+
+  behind-from : (h : List Call) (c d : ℕ) → c < π .crews → d < π .depots → Behind π T h c d → Behind π S h c d
+  behind-from h c d hc hd b = record {
+    from = b .from;
+    below = b .below;
+    apart = b .apart;
+    unseen = subst₂ (λ (x y : ℕ). x < y) (sym (lowest-stamp-same h d _ hd (b .below) (b .apart))) (sym (alike h .crew c _ hc (b .below))) (b .unseen);
+  }
+
+  -- that a move to the present home changes nothing is said of the state itself, which the other system does not see
+  pub moves-from : ((h : List Call) (c : ℕ) → c < π .crews → after S (move c (S .home (after S h) c) ∷ h) ≡ after S h) → Moves π T → Moves π S
+  moves-from same M = record {
+    refused-for = λ h c d e.
+        let f = M .refused-for h c d (sym (alike h .number (move c d)) ∙ e) in
+        (f .0, f .1, (λ t. f .2 (t ∙ alike h .home c (f .0))), behind-from h c d (f .0) (f .1) (f .3));
+    refused-where = λ h c d hc hd n b. alike h .number (move c d) ∙ M .refused-where h c d hc hd (λ t. n (t ∙ sym (alike h .home c hc))) (behind-to h c d hc hd b);
+    done-else = λ h c d hc hd n. alike h .number (move c d) ∙ M .done-else h c d hc hd (λ e. n (alike h .number (move c d) ∙ e));
+    named = λ h c d e. M .named h c d (sym (alike h .number (move c d)) ∙ e);
+    moved = λ h c d e. let p = sym (alike h .number (move c d)) ∙ e in alike (move c d ∷ h) .home c (M .named h c d p .0) ∙ M .moved h c d p;
+    others = λ h c d b hb n. alike (move c d ∷ h) .home b hb ∙ M .others h c d b hb n ∙ sym (alike h .home b hb);
+    vectors = λ h c d b x hb hx. alike (move c d ∷ h) .crew b x hb hx ∙ M .vectors h c d b x hb hx ∙ sym (alike h .crew b x hb hx);
+    stays = λ h c hc.
+        alike h .number (move c (S .home (after S h) c)) ∙ ap (λ d. T .number (after T h) (move c d)) (alike h .home c hc) ∙ M .stays h c hc;
+    unchanged = same;
+    let-in = λ h c d k v e g.
+        let p = sym (alike h .number (move c d)) ∙ e in
+        let g′ = got-to g in
+        let R = M .let-in h c d k v p g′ in
+        let there = alike (move c d ∷ h) .reads (read c k) c k v (g′ .passed) (g′ .gets) in
+        record {
+          stored = alike (read c k ∷ move c d ∷ h) .store d k (M .named h c d p .1) (there .1) ∙ R .stored;
+          causal = λ w same past. R .causal w same (past-to past);
+        };
+    admitted = λ g h c r s d e.
+        let e′ = sym (alike h .number (move c d)) ∙ e in
+        let hc = M .refused-for h c d e′ .0 in
+        let below = alike g .housed c hc in
+        let house = alike g .home c hc in
+        M .admitted g h c
+        (subst₂ (λ x y. Rounds π T (x - y + 1) g h) (ap (S .crew (after S g) c) house ∙ alike g .crew c _ hc below) (ap (lowestClock π S g) house ∙ lowest-same g _ below) (rounds-to r))
+        (silent-to s) d e′;
   }
 
   pub demands-from : 0 < π .shelves → Demands π T → Demands π S

@@ -6,13 +6,13 @@ use mathlib.Core.Path.{_≡_, refl, sym, subst, ap, _∙_}
 use mathlib.Core.Logic.{⊎-elim}
 use mathlib.Core.List.{List}
 use Rattle.loops.proofs.BoolLaws.{eq-or-ne}
-use Rattle.model.specs.Parts.{Counts, State, setShelf, setCrew}
+use Rattle.model.specs.Parts.{Counts, State, setShelf, setCrew, setHome}
 use Rattle.model.specs.Rules.{settle, keep, emit, send}
 use Rattle.paper.specs.declared.answer.Payload.{Payload}
-use Rattle.paper.specs.Calls.{Call, read, write, tick, take, refresh}
+use Rattle.paper.specs.Calls.{Call, read, write, tick, take, refresh, move}
 use Rattle.model.specs.Calls.{shelfOf, refusal, reading, acted}
 use Rattle.model.specs.System.{ofModel, run}
-use Rattle.model.specs.Demands.{By, a-read, a-write, Silent, start, on, Rounds, lowestClock}
+use Rattle.model.specs.Demands.{By, a-read, a-write, a-move, Silent, start, on, Rounds, lowestClock}
 use Rattle.model.proofs.Places.{put-other}
 use Rattle.model.proofs.Refusals.{SetUp, shelf-below, no-wait}
 use Rattle.model.proofs.Histories.{run-done, run-refused, inv}
@@ -21,19 +21,20 @@ use Rattle.model.proofs.Rounds.{rounds-reach, lowest-reached}
 
 module _ (π : Counts) (homes : List ℕ) where
   -- the state has crew c's vector and home as it had them
-  record Same (c : ℕ) (σ τ : State) : Type 0 where
-    crew : τ .crew c ≡ σ .crew c
-    home : τ .home c ≡ σ .home c
+  pub record Same (c : ℕ) (σ τ : State) : Type 0 where
+    pub crew : τ .crew c ≡ σ .crew c
+    pub home : τ .home c ≡ σ .home c
 
   crew-else : (σ : State) (q : Call) (c : ℕ) → (By c q → ⊥) → Same c σ (acted π σ q .state)
-  unfolding acted reading settle keep emit send setShelf setCrew
+  unfolding acted reading settle keep emit send setShelf setCrew setHome
   crew-else σ (read a k) c n = record { crew = put-other a _ _ c (λ e. n (subst (λ a. By c (read a k)) e a-read)); home = refl }
   crew-else σ (write a k v) c n = record { crew = put-other a _ _ c (λ e. n (subst (λ a. By c (write a k v)) e a-write)); home = refl }
   crew-else σ (tick d s) c n = record { crew = refl; home = refl }
   crew-else σ (take d s o) c n = record { crew = refl; home = refl }
   crew-else σ (refresh d s) c n = record { crew = refl; home = refl }
+  crew-else σ (move a d) c n = record { crew = refl; home = put-other a _ _ c (λ e. n (subst (λ a. By c (move a d)) e a-move)) }
 
-  silent-crew : {c : ℕ} {g h : List Call} → Silent (ofModel π homes) c g h → Same c (run π homes g) (run π homes h)
+  pub silent-crew : {c : ℕ} {g h : List Call} → Silent (ofModel π homes) c g h → Same c (run π homes g) (run π homes h)
   silent-crew start = record { crew = refl; home = refl }
   silent-crew {c} {g} (on {h = h} {q = q} s n) =
       let before = silent-crew s in

@@ -27,7 +27,7 @@ silent-through : (l : List Call) {g h : List Call} → ((q : Call) → Among q l
 silent-through [] each s = s
 silent-through (q ∷ l) each s = demands.on (silent-through l (λ q m. each q (List·Memᴰ·tail m)) s) (λ b p. nobodys 0 (each q (List·Memᴰ·head refl)) b)
 
-silent-round : (takes : List Call) {g h : List Call} → Each IsTake takes → Silent duo 0 g h → Silent duo 0 g (allTicked ++ (allRefreshed ++ (takes ++ h)))
+pub silent-round : (takes : List Call) {g h : List Call} → Each IsTake takes → Silent duo 0 g h → Silent duo 0 g (allTicked ++ (allRefreshed ++ (takes ++ h)))
 silent-round takes are s =
     silent-through allTicked (λ q m. inl (all-ticks q m))
     (silent-through allRefreshed (λ q m. inr (inl (all-refreshes q m))) (silent-through takes (λ q m. inr (inr (are q m))) s))
@@ -51,7 +51,7 @@ at-last = refl
 abbrev twoTakes : List Call
 twoTakes = take 1 0 0 ∷ (take 1 0 0 ∷ [])
 
-abbrev fourTakes : List Call
+abbrev pub fourTakes : List Call
 fourTakes = take 0 1 1 ∷ (take 0 0 1 ∷ (take 1 1 0 ∷ (take 1 0 0 ∷ [])))
 
 once-emptied : (d s o : ℕ) → d < 2 → s < 2 → o < 2 → Emptied (twoTakes ++ (asks ∷ twice)) d s o
@@ -62,13 +62,13 @@ twice-emptied : (d s o : ℕ) → d < 2 → s < 2 → o < 2 → Emptied (fourTak
 unfolding answersNow counts homes twice waitedOnce allRefreshed allTicked after step settled shown settle storing keep
 twice-emptied = all-links (fourTakes ++ (asks ∷ waitedOnce)) (λ n. refl) (λ n. refl) (λ n. refl) (λ n. refl)
 
-waited : Rounds counts duo 2 twice waitedTwice
+pub waited : Rounds counts duo 2 twice waitedTwice
 unfolding waitedOnce waitedTwice
 waited =
     demands.round (demands.between (demands.round (demands.between demands.begin) (round-of twoTakes (asks ∷ twice) (taking (taking no-takes)) once-emptied)))
     (round-of fourTakes (asks ∷ waitedOnce) (taking (taking (taking (taking no-takes)))) twice-emptied)
 
-silent : Silent duo 0 twice waitedTwice
+pub silent : Silent duo 0 twice waitedTwice
 unfolding waitedOnce waitedTwice
 silent =
     silent-round fourTakes (taking (taking (taking (taking no-takes))))

@@ -5,14 +5,14 @@ use mathlib.Core.Bool.{Bool, true, false, _||_, not, _&&_}
 use mathlib.Core.List.{List, [], _∷_, _++_}
 use lib.Dec.{eqb, ltb, leb}
 use lib.ListN.{length, getD}
-use Rattle.paper.specs.Calls.{lastDay, Call, read, write, tick, take, refresh, Told, read-value, read-unwritten, Answer, refused, done, reads, current, superseded, first}
+use Rattle.paper.specs.Calls.{lastDay, Call, read, write, tick, take, refresh, move, Told, read-value, read-unwritten, Answer, refused, done, reads, current, superseded, first}
 use Rattle.loops.specs.Loops.{every, pick}
 use Rattle.card.specs.Card.{cardFit}
 use Rattle.paper.specs.declared.answer.Payload.{Payload}
-use Rattle.order.specs.Vector.{Vec, merged, zeros}
+use Rattle.order.specs.Vector.{Vec, merged, zeros, covered}
 use Rattle.order.specs.Order.{above}
 use Rattle.model.specs.Parts.{mostDepots, mostShelves, mostBearings, mostCrews}
-use Rattle.model.specs.Parts.{Counts, Version, Write, Message, copy, heartbeat, Shelf, State, put, rank, setShelf, setCrew, end}
+use Rattle.model.specs.Parts.{Counts, Version, Write, Message, copy, heartbeat, Shelf, State, put, rank, setShelf, setCrew, setHome, end}
 use Rattle.model.specs.Rules.{settled, settle, keep, send, roomy, taking, lowestSeen}
 
 -- an answer and the state after it
@@ -65,6 +65,10 @@ module _ (π : Counts) where
     vector = put (σ .home c) (suc (σ .shelf (σ .home c) (shelfOf k) .clock)) (σ .crew c);
   }
 
+  -- depot d has seen the vector u: for every other depot, u's entry is at most the lowest stamp that any shelf of d has seen from it
+  unfoldable pub arrived : ℕ → Vec → State → Bool
+  arrived d u σ = covered (π .depots) d u (lowestSeen π d σ)
+
   -- when the desk says no: the checks of each call, in their order
   unfoldable pub refusal : State → Call → ℕ
   refusal σ (read c k) = first
@@ -96,6 +100,11 @@ module _ (π : Counts) where
       ((leb (π .depots) d, 2)
       ∷ ((leb (π .shelves) s, 3)
       ∷ []))
+  refusal σ (move c d) = first
+      ((leb (π .crews) c, 5)
+      ∷ ((leb (π .depots) d, 2)
+      ∷ ((not (eqb d (σ .home c) || arrived d (σ .crew c) σ), 12)
+      ∷ [])))
 
   -- a read, its home shelf h raised and shown: it answers what h stores, and the crew's vector becomes the entrywise maximum with it
   unfoldable pub reading : ℕ → ℕ → State → Shelf → Outcome
@@ -127,6 +136,10 @@ module _ (π : Counts) where
   acted σ (refresh d s) = record {
     answer = done;
     state = settle π d s (lowestSeen π d σ) σ;
+  }
+  acted σ (move c d) = record {
+    answer = done;
+    state = setHome c d σ;
   }
 
   -- a call: a refused one changes nothing

@@ -11,7 +11,7 @@ use Rattle.order.specs.Order.{above}
 use Rattle.model.specs.Parts.{Counts, Version, Write, rank, stamp, unwritten, lowest, end, room}
 use Rattle.card.specs.Card.{cardFit}
 use Rattle.paper.specs.declared.answer.Payload.{Payload}
-use Rattle.paper.specs.Calls.{lastDay, Call, read, write, tick, take, refresh, reads, current, superseded, numberIn}
+use Rattle.paper.specs.Calls.{lastDay, Call, read, write, tick, take, refresh, move, reads, current, superseded, numberIn}
 use Rattle.model.specs.Calls.{told, shelfOf}
 use Rattle.model.specs.System.{System, after}
 
@@ -31,6 +31,7 @@ pub data IsTick : Call → Type 0 where
 pub data By (c : ℕ) : Call → Type 0 where
   a-read : {k : ℕ} → By c (read c k)
   a-write : {k : ℕ} {p : Payload} → By c (write c k p)
+  a-move : {d : ℕ} → By c (move c d)
 
 -- the call q is one of the list l
 abbrev pub Among : Call → List Call → Type 0

@@ -3,7 +3,9 @@ pub mod Rules
 pub mod Calls
 pub mod System
 pub mod Demands
+pub mod Moves
 pub mod Cases
 pub mod Words
+pub mod MoveCase
 pub mod Follows
 pub mod Everywhere

@@ -111,9 +111,12 @@ emptyShelf = record { clock = 0; stable = λ x. 0; seen = λ x. 0; store = λ k.
 unfoldable pub fresh : List ℕ → State
 fresh homes = record { shelf = λ d s. emptyShelf; crew = λ c x. 0; home = λ c. getD homes c 0 }
 
--- the state with the shelf h, or the crew's vector u, put in its place
+-- the state with the shelf h, or the crew's vector u, or its home d, put in its place
 unfoldable pub setShelf : ℕ → ℕ → Shelf → State → State
 setShelf d s h σ = record { shelf = put d (put s h (σ .shelf d)) (σ .shelf); crew = σ .crew; home = σ .home }
 
 unfoldable pub setCrew : ℕ → Vec → State → State
 setCrew c u σ = record { shelf = σ .shelf; crew = put c u (σ .crew); home = σ .home }
+
+unfoldable pub setHome : ℕ → ℕ → State → State
+setHome c d σ = record { shelf = σ .shelf; crew = σ .crew; home = put c d (σ .home) }

@@ -20,8 +20,8 @@ use Rattle.book.specs.Layout.{bookWords, linkRoom, countsOf, home, seen, linkOf
 use Rattle.fit.specs.Fit.{countsFit, Within, homeFit, crewFit, clockFit, stableFit, seenFit, shelfFit, othersInRange, storedFit}
 use Rattle.fit.specs.Fit.{copyFit, messageFit, headFit, messagesFit, linkFit}
 use Rattle.fit.specs.Fit.{homesFit, crewsFit, shelvesFit, linksFit, storesFit, partsFit, fit}
-use Rattle.named.specs.Named.{headsOutFit, waitingFit, placesFit, arrivalFit, showFit, tickParts, takeParts, refreshParts, homeParts, readParts, writeParts}
-use Rattle.named.specs.Named.{baseFit, tickFit, takeFit, refreshFit, readFit, writeFit}
+use Rattle.named.specs.Named.{headsOutFit, waitingFit, placesFit, arrivalFit, showFit, tickParts, takeParts, refreshParts, homeParts, readParts, writeParts, moveParts}
+use Rattle.named.specs.Named.{baseFit, tickFit, takeFit, refreshFit, readFit, writeFit, moveFit}
 use Rattle.fit.proofs.FitLaws.{counts-within, IsFit, fit-open}
 use Rattle.versions.proofs.MessageLaws.{and-flat, link-heads, link-bearings}
 
@@ -117,6 +117,10 @@ module _ (n : Counts) (l : List ℕ) (h : partsFit n l ≡ true) where
   unfolding refreshParts
   refresh-parts d s a b = and-intro (every-intro (n .shelves) _ (λ x k. seen-fit d x a k)) (show-fit d s a b)
 
+  move-parts : (c d : ℕ) → c < n .crews → d < n .depots → moveParts n l c d ≡ true
+  unfolding moveParts
+  move-parts c d a b = and-intro (crew-fit c a) (every-intro (n .shelves) _ (λ x k. seen-fit d x b k))
+
   module _ (p : 0 < n .shelves) (c k : ℕ) (hc : c < n .crews) (hk : k < n .bearings) where
     read-parts : readParts n l c k ≡ true
     unfolding readParts homeParts
@@ -163,6 +167,10 @@ module _ (l : List ℕ) (h : fit l ≡ true) where
       and-intro fit-base
       (unless _ (λ a. unless _ (λ b. write-parts (countsOf l) l (F .parts) (counts-within (countsOf l) (F .counts) .shelf) c k (leb-false _ _ a) (leb-false _ _ b))))
 
+  pub fit-move : (c d : ℕ) → moveFit l c d ≡ true
+  unfolding moveFit
+  fit-move c d = and-intro fit-base (unless _ (λ a. unless _ (λ b. move-parts (countsOf l) l (F .parts) c d (leb-false _ _ a) (leb-false _ _ b))))
+
 -- ---- what a call may use
 
 -- the length, counts in range, and homes that are depots
@@ -204,6 +212,10 @@ pub write-named : (l : List ℕ) (c k : ℕ) → baseFit l ≡ true → c < coun
 unfolding writeFit
 write-named l c k f a b = and-next _ f ∙ or-next _ (lt-leb _ _ a) ∙ or-next _ (lt-leb _ _ b)
 
+pub move-named : (l : List ℕ) (c d : ℕ) → baseFit l ≡ true → c < countsOf l .crews → d < countsOf l .depots → moveFit l c d ≡ moveParts (countsOf l) l c d
+unfolding moveFit
+move-named l c d f a b = and-next _ f ∙ or-next _ (lt-leb _ _ a) ∙ or-next _ (lt-leb _ _ b)
+
 -- and the length, the counts and the homes are always among them
 pub tick-based : (l : List ℕ) (d s : ℕ) → tickFit l d s ≡ true → baseFit l ≡ true
 unfolding tickFit
@@ -224,6 +236,10 @@ read-based l c k h = and-left (baseFit l) _ h
 pub write-based : (l : List ℕ) (c k : ℕ) → writeFit l c k ≡ true → baseFit l ≡ true
 unfolding writeFit
 write-based l c k h = and-left (baseFit l) _ h
+
+pub move-based : (l : List ℕ) (c d : ℕ) → moveFit l c d ≡ true → baseFit l ≡ true
+unfolding moveFit
+move-based l c d h = and-left (baseFit l) _ h
 
 -- ---- the code
 

@@ -56,6 +56,10 @@ readParts n l c k = homeParts n l c k (home l c) (k % n .shelves)
 unfoldable pub writeParts : Counts → List ℕ → ℕ → ℕ → Bool
 writeParts n l c k = readParts n l c k && tickParts n l (home l c) (k % n .shelves)
 
+-- crew c's vector, and the stamps seen on all shelves of its new home d
+unfoldable pub moveParts : Counts → List ℕ → ℕ → ℕ → Bool
+moveParts n l c d = crewFit n l c && every (n .shelves) (seenFit n l d)
+
 -- ---- BAD BOOK is the want of these
 
 -- the length, the counts and the homes
@@ -79,3 +83,6 @@ readFit l c k = baseFit l && (leb (countsOf l .crews) c || (leb (countsOf l .bea
 
 unfoldable pub writeFit : List ℕ → ℕ → ℕ → Bool
 writeFit l c k = baseFit l && (leb (countsOf l .crews) c || (leb (countsOf l .bearings) k || writeParts (countsOf l) l c k))
+
+unfoldable pub moveFit : List ℕ → ℕ → ℕ → Bool
+moveFit l c d = baseFit l && (leb (countsOf l .crews) c || (leb (countsOf l .depots) d || moveParts (countsOf l) l c d))

@@ -33,7 +33,7 @@ ghost use Rattle.loops.specs.Loops.{every};
 ghost use Rattle.order.specs.Record.{mostDepots, bearingOf};
 ghost use Rattle.book.specs.Layout.{bookWords, mostShelves, mostCrews, bearingRoom, links, linkRoom, linkOf, slot, recordOf};
 ghost use Rattle.fit.specs.Fit.{Within, seenFit, headFit, storedFit};
-ghost use Rattle.named.specs.Named.{headsOutFit, arrivalFit, showFit, tickParts, takeParts, refreshParts, homeParts, baseFit};
+ghost use Rattle.named.specs.Named.{headsOutFit, arrivalFit, showFit, tickParts, takeParts, refreshParts, homeParts, moveParts, baseFit};
 
 // Whether a book has its length, counts in range, and homes that are depots.
 pub fn base_fits(book: &[u32]) -> bool
@@ -244,4 +244,15 @@ pub fn refresh_parts_fit(book: &[u32], n: Counts, d: Depot, s: Shelf) -> bool
         return false;
     }
     show_fits(book, n, d, s)
+}
+
+// Whether what a crew's move to a depot reads is fit.
+pub fn move_parts_fit(book: &[u32], n: Counts, c: Crew, d: Depot) -> bool
+    requires { ⌜ (length (now book) ≡ bookWords) × Within n × (c .0 < mostCrews) × (d .0 < mostDepots) ⌝ }
+    ensures { λ r. ⌜ r ≡ moveParts n (now (book .entry)) (c .0) (d .0) ⌝ }
+{
+    if !crew_fits(book, n, c) {
+        return false;
+    }
+    seen_all_fit(book, n, d)
 }

@@ -8,7 +8,8 @@ use lib.ListN.{length}
 use Rattle.loops.specs.Loops.{pick}
 use Rattle.paper.specs.Calls.{read-value, read-unwritten, Answer, refused, done, reads, current, superseded}
 use Rattle.paper.specs.declared.answer.Refusal.{Refusal}
-use Rattle.paper.specs.declared.answer.Refusal.the-variants.{BadBook, BadDepot, BadShelf, BadKey, BadCrew, SameDepot, EmptyLink, Wait, LinkFull, ClockAtEnd, BadCounts, BadDate, BadCard}
+use Rattle.paper.specs.declared.answer.Refusal.the-variants.{BadBook, BadDepot, BadShelf, BadKey, BadCrew, SameDepot, EmptyLink, Wait}
+use Rattle.paper.specs.declared.answer.Refusal.the-variants.{LinkFull, ClockAtEnd, BadCounts, NotHereYet, BadDate, BadCard}
 use Rattle.paper.specs.declared.answer.Answer as plain
 use Rattle.paper.specs.declared.answer.Finding.{Finding}
 use Rattle.paper.specs.declared.answer.ReadAnswer.{ReadAnswer}
@@ -25,7 +26,7 @@ numbered [] n = BadBook
 numbered (r ∷ rs) n = pick (eqb (numberOf r) n) r (numbered rs n)
 
 refusalAt : ℕ → Refusal
-refusalAt = numbered (BadBook ∷ BadDepot ∷ BadShelf ∷ BadKey ∷ BadCrew ∷ SameDepot ∷ EmptyLink ∷ Wait ∷ LinkFull ∷ ClockAtEnd ∷ BadCounts ∷ BadDate ∷ BadCard ∷ [])
+refusalAt = numbered (BadBook ∷ BadDepot ∷ BadShelf ∷ BadKey ∷ BadCrew ∷ SameDepot ∷ EmptyLink ∷ Wait ∷ LinkFull ∷ ClockAtEnd ∷ BadCounts ∷ NotHereYet ∷ BadDate ∷ BadCard ∷ [])
 
 refusal-back : (r : Refusal) → refusalAt (numberOf r) ≡ r
 unfolding numberOf refusalAt numbered pick
@@ -40,6 +41,7 @@ refusal-back Wait = refl
 refusal-back LinkFull = refl
 refusal-back ClockAtEnd = refl
 refusal-back BadCounts = refl
+refusal-back NotHereYet = refl
 refusal-back BadDate = refl
 refusal-back BadCard = refl
 

@@ -5,7 +5,8 @@ use mathlib.Core.Path.{_≡_}
 use mathlib.Core.List.{List, [], _∷_}
 use lib.ListN.{length, getD, take}
 use Rattle.paper.specs.declared.answer.Refusal.{Refusal}
-use Rattle.paper.specs.declared.answer.Refusal.the-variants.{BadBook, BadDepot, BadShelf, BadKey, BadCrew, SameDepot, EmptyLink, Wait, LinkFull, ClockAtEnd, BadCounts, BadDate, BadCard}
+use Rattle.paper.specs.declared.answer.Refusal.the-variants.{BadBook, BadDepot, BadShelf, BadKey, BadCrew, SameDepot, EmptyLink, Wait}
+use Rattle.paper.specs.declared.answer.Refusal.the-variants.{LinkFull, ClockAtEnd, BadCounts, NotHereYet, BadDate, BadCard}
 use Rattle.paper.specs.declared.answer.Answer as answer
 use Rattle.paper.specs.declared.answer.Finding.{Finding}
 use Rattle.paper.specs.declared.answer.ReadAnswer.{ReadAnswer}
@@ -27,10 +28,11 @@ numberOf Wait = 8
 numberOf LinkFull = 9
 numberOf ClockAtEnd = 10
 numberOf BadCounts = 11
+numberOf NotHereYet = 12
 numberOf BadDate = 16
 numberOf BadCard = 14
 
--- the answer of a setup, a tick, a take or a refresh
+-- the answer of a setup, a tick, a take, a refresh or a move
 unfoldable pub paper : answer.Answer → Answer
 paper answer.Answer.Done = done
 paper (answer.Answer.Refused r) = refused (numberOf r)

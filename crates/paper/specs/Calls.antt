@@ -12,13 +12,15 @@ use Rattle.paper.specs.declared.answer.Payload.{Payload}
 abbrev pub lastDay : ℕ
 lastDay = 146096
 
--- read (crew, bearing), write (crew, bearing, payload: the value and its card), tick (depot, shelf), take (at depot, shelf, from depot), refresh (depot, shelf)
+-- read (crew, bearing), write (crew, bearing, payload: the value and its card), tick (depot, shelf), take (at depot, shelf, from depot), refresh (depot, shelf),
+-- move (crew, new home)
 pub data Call : Type 0 where
   read : ℕ → ℕ → Call
   write : ℕ → ℕ → Payload → Call
   tick : ℕ → ℕ → Call
   take : ℕ → ℕ → ℕ → Call
   refresh : ℕ → ℕ → Call
+  move : ℕ → ℕ → Call
 
 -- what is told of a bearing: the payload or "unwritten", with the vector
 pub data Told : Type 0 where

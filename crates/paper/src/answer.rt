@@ -13,11 +13,12 @@ pub enum Refusal {
     LinkFull,
     ClockAtEnd,
     BadCounts,
+    NotHereYet,
     BadDate,
     BadCard,
 }
 
-// The answer of a setup, a tick, a take or a refresh.
+// The answer of a setup, a tick, a take, a refresh or a move.
 pub enum Answer {
     Done,
     Refused(Refusal),

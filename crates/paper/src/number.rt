@@ -22,6 +22,7 @@ pub fn number_of(r: Refusal) -> u32
         Refusal::LinkFull => 9,
         Refusal::ClockAtEnd => 10,
         Refusal::BadCounts => 11,
+        Refusal::NotHereYet => 12,
         Refusal::BadDate => 16,
         Refusal::BadCard => 14,
     }

@@ -7,7 +7,7 @@ ghost use Rattle.paper.specs.Requests.{requestIn, homesIn};
 // The last day that a value may name, 31 December 2399: the calendar's last day.
 pub const LAST_DAY: u32 = 146_096;
 
-// The kinds of request, as the letter of a line names them.
+// The kinds of request that a line can make, as its letter names them. A move is none: the lines are closed.
 pub enum Event {
     Setup,
     Read,
@@ -46,6 +46,10 @@ pub enum Request {
     Refresh {
         depot: u32,
         shelf: u32,
+    },
+    Move {
+        crew: u32,
+        depot: u32,
     },
 }
 

@@ -9,7 +9,7 @@ use borrow.Author.Tests.{eq-eqb}
 use Rattle.loops.proofs.BoolLaws.{pick-true, pick-false}
 use Rattle.paper.specs.Calls.{Answer, refused, answerBy}
 use Rattle.paper.specs.declared.answer.Refusal.{Refusal}
-use Rattle.paper.specs.declared.answer.Refusal.the-variants.{BadBook, BadDepot, BadShelf, BadKey, BadCrew, SameDepot, EmptyLink, Wait, LinkFull, ClockAtEnd, BadCounts, BadDate, BadCard}
+use Rattle.paper.specs.declared.answer.Refusal.the-variants.{BadBook, BadDepot, BadShelf, BadKey, BadCrew, SameDepot, EmptyLink, Wait, LinkFull, ClockAtEnd, BadCounts, NotHereYet, BadDate, BadCard}
 use Rattle.book.specs.declared.numbers.Depot.{Depot}
 use Rattle.book.specs.declared.numbers.Shelf.{Shelf}
 use Rattle.book.specs.declared.numbers.Bearing.{Bearing}
@@ -39,6 +39,7 @@ refusal-counts Wait = refl
 refusal-counts LinkFull = refl
 refusal-counts ClockAtEnd = refl
 refusal-counts BadCounts = refl
+refusal-counts NotHereYet = refl
 refusal-counts BadDate = refl
 refusal-counts BadCard = refl
 

@@ -10,4 +10,5 @@ pub mod Numbers
 pub mod FitReady
 pub mod MadeLaws
 pub mod HomeLaws
+pub mod MoveTable
 pub mod WriteLaws

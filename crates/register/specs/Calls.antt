@@ -74,6 +74,10 @@ takeBook l d s from = took d s from l
 unfoldable pub refreshBook : List ℕ → ℕ → ℕ → List ℕ
 refreshBook l d s = settled (countsOf l .depots) d s (lowestSeen (countsOf l .depots) (countsOf l .shelves) d l) l
 
+-- move: the crew's home is the new one, and no other word changes
+unfoldable pub moveBook : List ℕ → ℕ → ℕ → List ℕ
+moveBook l c d = set l (homeAt c) d
+
 -- ---- the version that a write makes, as its words
 
 -- a vector with one entry set

@@ -15,8 +15,8 @@ use Rattle.paper.specs.declared.answer.ReadAnswer.{ReadAnswer}
 use Rattle.paper.specs.declared.answer.WriteAnswer.{WriteAnswer}
 use Rattle.paper.specs.Answers.{paper, paperRead, paperWrite, Holds}
 use Rattle.register.specs.Answers.{told, written}
-use Rattle.register.specs.Table.{setupNumber, readNumber, writeNumber, tickNumber, takeNumber, refreshNumber}
-use Rattle.register.specs.Calls.{setUp, readRecord, readBook, newStamp, isCurrent, writeBook, tickBook, takeBook, refreshBook}
+use Rattle.register.specs.Table.{setupNumber, readNumber, writeNumber, tickNumber, takeNumber, refreshNumber, moveNumber}
+use Rattle.register.specs.Calls.{setUp, readRecord, readBook, newStamp, isCurrent, writeBook, tickBook, takeBook, refreshBook, moveBook}
 
 -- the book after a call with this number: changed if done, else as it was
 unfoldable pub after : ℕ → List ℕ → List ℕ → List ℕ
@@ -46,3 +46,7 @@ pub record Take (l : List ℕ) (d s from : ℕ) (r : Answer) (l′ : List ℕ) :
 pub record Refresh (l : List ℕ) (d s : ℕ) (r : Answer) (l′ : List ℕ) : Type 0 where
   pub answer : paper r ≡ answerBy (refreshNumber l d s) done
   pub book : l′ ≡ after (refreshNumber l d s) (refreshBook l d s) l
+
+pub record Move (l : List ℕ) (c d : ℕ) (r : Answer) (l′ : List ℕ) : Type 0 where
+  pub answer : paper r ≡ answerBy (moveNumber l c d) done
+  pub book : l′ ≡ after (moveNumber l c d) (moveBook l c d) l

@@ -2,19 +2,20 @@
 -- check that fails it, and 0, done, otherwise.
 -- Assumes nothing.
 use Prim.Native.Nat.{ℕ, _%_}
-use mathlib.Core.Bool.{_||_, not}
+use mathlib.Core.Bool.{Bool, _||_, not}
 use mathlib.Core.List.{List, [], _∷_}
 use lib.Dec.{eqb, ltb, leb}
 use lib.ListN.{length, getD}
 use Rattle.loops.specs.Loops.{every}
+use Rattle.order.specs.Vector.{covered}
 use Rattle.card.specs.Card.{cardFit}
 use Rattle.paper.specs.declared.answer.Payload.{Payload}
 use Rattle.paper.specs.Calls.{lastDay, first}
 use Rattle.book.specs.declared.parts.Counts.{Counts}
 use Rattle.book.specs.Layout.{end, bookWords, countsOf, home, crewVector, clock, linkOf, held, taken}
 use Rattle.fit.specs.Fit.{countsFit}
-use Rattle.named.specs.Named.{tickFit, takeFit, refreshFit, readFit, writeFit}
-use Rattle.links.specs.Send.{roomy}
+use Rattle.named.specs.Named.{tickFit, takeFit, refreshFit, readFit, writeFit, moveFit}
+use Rattle.links.specs.Send.{roomy, lowestSeen}
 
 -- bearing k lies on shelf k mod P
 abbrev pub shelfOf : List ℕ → ℕ → ℕ
@@ -75,4 +76,17 @@ refreshNumber l d s = first
     ((not (refreshFit l d s), 1)
     ∷ (leb (countsOf l .depots) d, 2)
     ∷ (leb (countsOf l .shelves) s, 3)
+    ∷ [])
+
+-- depot d has seen crew c's vector: for every other depot, the crew's entry is at most the lowest stamp that any shelf of d has seen from it
+unfoldable pub arrived : List ℕ → ℕ → ℕ → Bool
+arrived l c d = covered (countsOf l .depots) d (crewVector l c) (lowestSeen (countsOf l .depots) (countsOf l .shelves) d l)
+
+-- move, of crew c to depot d
+unfoldable pub moveNumber : List ℕ → ℕ → ℕ → ℕ
+moveNumber l c d = first
+    ((not (moveFit l c d), 1)
+    ∷ (leb (countsOf l .crews) c, 5)
+    ∷ (leb (countsOf l .depots) d, 2)
+    ∷ (not (eqb d (home l c) || arrived l c d), 12)
     ∷ [])

@@ -11,13 +11,13 @@ use borrow.Author.Tests.{leb-true, leb-false, le-leb, ltb-true, lt-ltb, eqb-true
 use Rattle.loops.proofs.BoolLaws.{and-left, and-right, and-intro, pick-true}
 use Rattle.loops.proofs.LoopLaws.{every-intro}
 use Rattle.paper.specs.declared.answer.Payload.{Payload}
-use Rattle.paper.specs.Calls.{Call, read, write, tick, take, refresh}
+use Rattle.paper.specs.Calls.{Call, read, write, tick, take, refresh, move}
 use Rattle.book.specs.declared.parts.Counts.{Counts}
 use Rattle.book.specs.Layout.{countsOf}
 use Rattle.fit.specs.Fit.{homeFit, inRange, crewFit, clockFit, storedFit, Within, fit}
 use Rattle.named.specs.Named.{tickParts, takeParts, refreshParts, readParts, writeParts, baseFit, tickFit, takeFit, refreshFit, readFit, writeFit}
 use Rattle.fit.proofs.FitLaws.{counts-within}
-use Rattle.named.proofs.NamedLaws.{Based, base-open}
+use Rattle.named.proofs.NamedLaws.{base-open}
 use Rattle.shelf.proofs.FrameLaws.{pick-cases}
 use Rattle.register.specs.Table.{readNumber, writeNumber, tickNumber, takeNumber, refreshNumber}
 use Rattle.register.specs.Calls.{setUp, readBook, writeBook, tickBook, takeBook, refreshBook}
@@ -27,11 +27,12 @@ use Rattle.register.proofs.Numbers.{tick-done, take-done, refresh-done, read-do
 use Rattle.upkeep.specs.Requests.{Request, setup, call, numberAt, changedBy, bookAfter, last}
 use Rattle.upkeep.specs.Own.{Part, theLength, theCounts, aHome, aCrew, aClock, aStable, aStamp, aHead, aWaiting, aLink, aStored, Named, fitPart, Fits, fitFor}
 use Rattle.upkeep.proofs.FitFrame.{Keeps, counts-same}
+use Rattle.upkeep.proofs.FitMove.{Leaves, keeps-leaves, move-leaves, move-own}
 use Rattle.upkeep.proofs.FitKept.{crew-open, tick-asked, take-asked, refresh-asked, read-asked, write-asked}
 use Rattle.upkeep.proofs.FitKept.{tick-keeps, take-keeps, refresh-settles, read-settles}
 use Rattle.upkeep.proofs.FitWrite.{write-settles}
 use Rattle.upkeep.proofs.FitSetup.{length-set-up, setup-fit}
-use Rattle.upkeep.proofs.FitOwnParts.{or-on, stable-open, stable-close, head-close, waiting-close, keeps-part}
+use Rattle.upkeep.proofs.FitOwnParts.{or-on, stable-open, stable-close, head-close, waiting-close}
 use Rattle.upkeep.proofs.FitOwnParts.{base-kept, tick-kept, take-kept, refresh-kept, read-kept, write-kept}
 
 -- ---- a book is fit exactly if each of its parts is
@@ -82,20 +83,21 @@ parts-fit l h =
 -- ---- unfitness never spreads
 
 -- a call that is done keeps every part
-call-keeps : (l : List ℕ) (q : Call) → numberAt l (call q) ≡ 0 → Based l × Keeps (countsOf l) l (changedBy l (call q))
+call-keeps : (l : List ℕ) (q : Call) → numberAt l (call q) ≡ 0 → Leaves (countsOf l) l (changedBy l (call q))
 unfolding numberAt changedBy
-call-keeps l (read c k) h = (read-asked l c k (read-done l c k h) .0, read-settles l c k h .keeps)
-call-keeps l (write c k payload) h = (write-asked l c k (write-done l c k payload h) .0, write-settles l c k payload h .keeps)
-call-keeps l (tick d s) h = (tick-asked l d s (tick-done l d s h) .0, tick-keeps l d s h)
-call-keeps l (take d s from) h = (take-asked l d s from (take-done l d s from h) .0, take-keeps l d s from h)
-call-keeps l (refresh d s) h = (refresh-asked l d s (refresh-done l d s h) .0, refresh-settles l d s h .keeps)
+call-keeps l (read c k) h = keeps-leaves (countsOf l) l _ (read-asked l c k (read-done l c k h) .0 .within) (read-settles l c k h .keeps)
+call-keeps l (write c k payload) h = keeps-leaves (countsOf l) l _ (write-asked l c k (write-done l c k payload h) .0 .within) (write-settles l c k payload h .keeps)
+call-keeps l (tick d s) h = keeps-leaves (countsOf l) l _ (tick-asked l d s (tick-done l d s h) .0 .within) (tick-keeps l d s h)
+call-keeps l (take d s from) h = keeps-leaves (countsOf l) l _ (take-asked l d s from (take-done l d s from h) .0 .within) (take-keeps l d s from h)
+call-keeps l (refresh d s) h = keeps-leaves (countsOf l) l _ (refresh-asked l d s (refresh-done l d s h) .0 .within) (refresh-settles l d s h .keeps)
+call-keeps l (move c d) h = move-leaves l c d h
 
 -- no call moves the counts
 pub counts-stay : (l : List ℕ) (q : Call) → countsOf (bookAfter l (call q)) ≡ countsOf l
 unfolding bookAfter after
 counts-stay l q =
     pick-cases (λ (m : List ℕ). countsOf m ≡ countsOf l) (eqb (numberAt l (call q)) 0) _ l
-    (λ e. let K = call-keeps l q (eqb-true _ 0 e) .1 in counts-same l (changedBy l (call q)) (λ j k. K .low j (omega arith))) λ e. refl
+    (λ e. counts-same l (changedBy l (call q)) (call-keeps l q (eqb-true _ 0 e) .counts)) λ e. refl
 
 -- and a part that they name and that is fit stays fit
 pub part-stays :
@@ -103,7 +105,7 @@ pub part-stays :
 unfolding bookAfter after
 part-stays l q p k h =
     pick-cases (λ (m : List ℕ). fitPart (countsOf l) m p ≡ true) (eqb (numberAt l (call q)) 0) _ l
-    (λ e. let K = call-keeps l q (eqb-true _ 0 e) in keeps-part (countsOf l) l _ (K .0 .within) (K .1) p k h) λ e. h
+    (λ e. call-keeps l q (eqb-true _ 0 e) .part p k h) λ e. h
 
 -- the same of any request: a setup that is done makes every part fit
 pub no-spread : (l : List ℕ) (r : Request) (p : Part) → Fits l p → Fits (bookAfter l r) p
@@ -180,6 +182,7 @@ done-own l (call (write c k payload)) h = write-own l c k payload h
 done-own l (call (tick d s)) h = tick-own l d s h
 done-own l (call (take d s from)) h = take-own l d s from h
 done-own l (call (refresh d s)) h = refresh-own l d s h
+done-own l (call (move c d)) h = move-own l c d h
 
 pub own-parts : (l : List ℕ) (r : Request) → numberAt l r ≡ 0 → fitFor (bookAfter l r) r ≡ true
 unfolding bookAfter after

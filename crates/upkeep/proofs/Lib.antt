@@ -7,6 +7,7 @@ pub mod FitKept
 pub mod FitWrite
 pub mod FitSetup
 pub mod FitOwnParts
+pub mod FitMove
 pub mod FitOwn
 pub mod FitOwnCase
 pub mod NeverBadBook
@@ -24,4 +25,5 @@ pub mod LocalRefresh
 pub mod LocalHome
 pub mod LocalRead
 pub mod LocalWrite
+pub mod LocalMove
 pub mod LocalCalls

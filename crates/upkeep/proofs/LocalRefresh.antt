@@ -39,7 +39,7 @@ refresh-shows l d s t =
     (sym (refresh-named l d s (refresh-based l d s (t .fits)) (t .depot) (t .shelf)) ∙ t .fits)
 
 -- the lowest stamp seen, of two books that agree on the stamps seen of the other depots
-lowest-agrees :
+pub lowest-agrees :
     (n p d : ℕ) (l m : List ℕ) → ((r x : ℕ) → r < p → x < n → (x ≡ d → ⊥) → seen l d r x ≡ seen m d r x) → (x : ℕ) → x < n → (x ≡ d → ⊥) →
     lowestSeen n p d l x ≡ lowestSeen n p d m x
 unfolding lowestSeen lowest

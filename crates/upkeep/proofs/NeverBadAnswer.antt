@@ -9,13 +9,13 @@ use lib.Dec.{eqb}
 use borrow.Author.Tests.{eqb-true, ne-eqb}
 use Rattle.loops.specs.Loops.{pick}
 use Rattle.loops.proofs.BoolLaws.{decided, pick-true, pick-false}
-use Rattle.paper.specs.Calls.{read, write, tick, take, refresh, Answer, done, numberIn, answerBy}
+use Rattle.paper.specs.Calls.{read, write, tick, take, refresh, move, Answer, done, numberIn, answerBy}
 use Rattle.book.specs.declared.parts.Counts.{Counts}
 use Rattle.fit.specs.Fit.{fit}
 use Rattle.register.specs.Answers.{written}
 use Rattle.register.specs.Promises.{after}
 use Rattle.upkeep.specs.Requests.{Request, setup, call, numberAt, doneAnswer, replyTo, changedBy}
-use Rattle.upkeep.specs.Requests.{bookAfter, Called, set-up, did-read, did-write, ticked, took, refreshed, Lead, none, then}
+use Rattle.upkeep.specs.Requests.{bookAfter, Called, set-up, did-read, did-write, ticked, took, refreshed, moved, Lead, none, then}
 use Rattle.upkeep.specs.Own.{Part, Fits}
 use Rattle.upkeep.proofs.FitSetup.{setup-fit}
 use Rattle.upkeep.proofs.FitOwn.{fit-parts, parts-fit, no-spread}
@@ -31,6 +31,7 @@ settled (did-write p) = (p .answer, p .book)
 settled (ticked p) = (p .answer, p .book)
 settled (took p) = (p .answer, p .book)
 settled (refreshed p) = (p .answer, p .book)
+settled (moved p) = (p .answer, p .book)
 
 -- a refused request moves not one word
 pub refused-stays : (l : List ℕ) (r : Request) → (numberAt l r ≡ 0 → ⊥) → bookAfter l r ≡ l
@@ -52,6 +53,7 @@ done-number l (call (write c k payload)) = written-done _ _
 done-number l (call (tick d s)) = refl
 done-number l (call (take d s from)) = refl
 done-number l (call (refresh d s)) = refl
+done-number l (call (move c d)) = refl
 
 pub reply-number : (l : List ℕ) (r : Request) → numberIn (replyTo l r) ≡ numberAt l r
 unfolding replyTo answerBy numberIn

@@ -13,9 +13,9 @@ use Rattle.book.specs.declared.parts.Counts.{Counts}
 use Rattle.book.specs.Layout.{bookWords}
 use Rattle.fit.specs.Fit.{fit}
 use Rattle.fit.proofs.FitLaws.{fit-open}
-use Rattle.named.proofs.NamedLaws.{fit-tick, fit-take, fit-refresh, fit-read, fit-write}
-use Rattle.paper.specs.Calls.{first, read, write, tick, take, refresh}
-use Rattle.register.specs.Table.{setupNumber, readNumber, writeNumber, tickNumber, takeNumber, refreshNumber}
+use Rattle.named.proofs.NamedLaws.{fit-tick, fit-take, fit-refresh, fit-read, fit-write, fit-move}
+use Rattle.paper.specs.Calls.{first, read, write, tick, take, refresh, move}
+use Rattle.register.specs.Table.{setupNumber, readNumber, writeNumber, tickNumber, takeNumber, refreshNumber, moveNumber}
 use Rattle.register.specs.Calls.{setUp}
 use Rattle.upkeep.specs.Requests.{Request, setup, call, numberAt, bookAfter, last}
 use Rattle.upkeep.specs.Own.{fitFor}
@@ -51,7 +51,7 @@ none-other h = omega arith
 
 -- a request whose parts are fit is not answered with BAD BOOK
 pub fits-number : (l : List ℕ) (r : Request) → fitFor l r ≡ true → numberAt l r ≡ 1 → ⊥
-unfolding fitFor numberAt setupNumber readNumber writeNumber tickNumber takeNumber refreshNumber
+unfolding fitFor numberAt setupNumber readNumber writeNumber tickNumber takeNumber refreshNumber moveNumber
 fits-number l (setup n homes) h = first-other _ _ (ap not h) (later-other _ 11 _ (omega arith) (later-other _ 2 _ (omega arith) none-other))
 fits-number l (call (read c k)) h = first-other _ _ (ap not h) (later-other _ 5 _ (omega arith) (later-other _ 4 _ (omega arith) none-other))
 fits-number l (call (write c k payload)) h =
@@ -67,16 +67,19 @@ fits-number l (call (take d s from)) h =
     first-other _ _ (ap not h)
     (later-other _ 2 _ (omega arith) (later-other _ 3 _ (omega arith) (later-other _ 6 _ (omega arith) (later-other _ 7 _ (omega arith) none-other))))
 fits-number l (call (refresh d s)) h = first-other _ _ (ap not h) (later-other _ 2 _ (omega arith) (later-other _ 3 _ (omega arith) none-other))
+fits-number l (call (move c d)) h =
+    first-other _ _ (ap not h) (later-other _ 5 _ (omega arith) (later-other _ 2 _ (omega arith) (later-other _ 12 _ (omega arith) none-other)))
 
 -- and one that wants a part is
 pub unfit-number : (l : List ℕ) (r : Request) → fitFor l r ≡ false → numberAt l r ≡ 1
-unfolding fitFor numberAt setupNumber readNumber writeNumber tickNumber takeNumber refreshNumber first
+unfolding fitFor numberAt setupNumber readNumber writeNumber tickNumber takeNumber refreshNumber moveNumber first
 unfit-number l (setup n homes) h = pick-true _ _ (ap not h)
 unfit-number l (call (read c k)) h = pick-true _ _ (ap not h)
 unfit-number l (call (write c k payload)) h = pick-true _ _ (ap not h)
 unfit-number l (call (tick d s)) h = pick-true _ _ (ap not h)
 unfit-number l (call (take d s from)) h = pick-true _ _ (ap not h)
 unfit-number l (call (refresh d s)) h = pick-true _ _ (ap not h)
+unfit-number l (call (move c d)) h = pick-true _ _ (ap not h)
 
 -- so a request that was done may be asked again: its parts are fit
 pub own-again : (l : List ℕ) (r : Request) → numberAt l r ≡ 0 → numberAt (bookAfter l r) r ≡ 1 → ⊥
@@ -91,6 +94,7 @@ fit-for l h (call (write c k payload)) = fit-write l h c k
 fit-for l h (call (tick d s)) = fit-tick l h d s
 fit-for l h (call (take d s from)) = fit-take l h d s from
 fit-for l h (call (refresh d s)) = fit-refresh l h d s
+fit-for l h (call (move c d)) = fit-move l h c d
 
 pub fit-number : (l : List ℕ) → fit l ≡ true → (r : Request) → numberAt l r ≡ 1 → ⊥
 fit-number l h r = fits-number l r (fit-for l h r)

@@ -9,7 +9,7 @@ use Rattle.paper.specs.declared.answer.Answer.{Answer}
 use Rattle.paper.specs.declared.answer.ReadAnswer.{ReadAnswer}
 use Rattle.paper.specs.declared.answer.WriteAnswer.{WriteAnswer}
 use Rattle.paper.proofs.Settles.{plain-settles, read-settles, written-settles}
-use Rattle.register.specs.Promises.{Setup, Read, Write, Tick, Take, Refresh}
+use Rattle.register.specs.Promises.{Setup, Read, Write, Tick, Take, Refresh, Move}
 
 pub setup-unique : (l : List ℕ) (n : Counts) (homes : List ℕ) {r r′ : Answer} {m m′ : List ℕ} → Setup l n homes r m → Setup l n homes r′ m′ → (r ≡ r′) × (m ≡ m′)
 setup-unique l n homes p q = (plain-settles _ _ (p .answer ∙ sym (q .answer)), p .book ∙ sym (q .book))
@@ -28,3 +28,6 @@ take-unique l d s from p q = (plain-settles _ _ (p .answer ∙ sym (q .answer)),
 
 pub refresh-unique : (l : List ℕ) (d s : ℕ) {r r′ : Answer} {m m′ : List ℕ} → Refresh l d s r m → Refresh l d s r′ m′ → (r ≡ r′) × (m ≡ m′)
 refresh-unique l d s p q = (plain-settles _ _ (p .answer ∙ sym (q .answer)), p .book ∙ sym (q .book))
+
+pub move-unique : (l : List ℕ) (c d : ℕ) {r r′ : Answer} {m m′ : List ℕ} → Move l c d r m → Move l c d r′ m′ → (r ≡ r′) × (m ≡ m′)
+move-unique l c d p q = (plain-settles _ _ (p .answer ∙ sym (q .answer)), p .book ∙ sym (q .book))

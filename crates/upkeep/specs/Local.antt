@@ -9,7 +9,7 @@ use mathlib.Core.List.{List}
 use lib.ListN.{length, getD}
 use Rattle.order.specs.Record.{recordWords, bearingOf}
 use Rattle.paper.specs.declared.answer.Payload.{Payload}
-use Rattle.paper.specs.Calls.{Call, read, write, tick, take, refresh}
+use Rattle.paper.specs.Calls.{Call, read, write, tick, take, refresh, move}
 use Rattle.book.specs.declared.parts.Counts.{Counts}
 use Rattle.book.specs.Layout.{slotWords, homeAt, crewAt, clockAt, stableAt, seenAt, linkOf, heldAt, slotAt, storedAt}
 use Rattle.book.specs.Layout.{countsOf, home, held, taken, slot, recordOf}
@@ -86,6 +86,11 @@ pub data WriteWord (n : Counts) (l : List ℕ) (c k j : ℕ) : Type 0 where
   as-read : ReadWord n l c k j → WriteWord n l c k j
   as-tick : TickWord n (home l c) (k % n .shelves) j → WriteWord n l c k j
 
+-- crew c's vector, and the stamps seen of the other depots on all shelves of depot d
+pub data MoveWord (n : Counts) (c d j : ℕ) : Type 0 where
+  of-mover : In (crewAt c) (n .depots) j → MoveWord n c d j
+  of-stamps : (r x : ℕ) → r < n .shelves → x < n .depots → (x ≡ d → ⊥) → j ≡ seenAt d r + x → MoveWord n c d j
+
 -- word j is one that a request names in the book l. A setup names none: it asks for the length only. Every call names the counts and the homes; where
 -- these are fit and its numbers are in range, its parts too
 pub data Named (l : List ℕ) : Request → ℕ → Type 0 where
@@ -98,6 +103,7 @@ pub data Named (l : List ℕ) : Request → ℕ → Type 0 where
       TakeWord l d s from j → Named l (call (take d s from)) j
   by-refresh : {d s j : ℕ} → baseFit l ≡ true → d < countsOf l .depots → s < countsOf l .shelves → RefreshWord (countsOf l) l d s j →
       Named l (call (refresh d s)) j
+  by-move : {c d j : ℕ} → baseFit l ≡ true → c < countsOf l .crews → d < countsOf l .depots → MoveWord (countsOf l) c d j → Named l (call (move c d)) j
 
 -- ---- the words that each request writes
 
@@ -131,7 +137,7 @@ pub data WroteWord (n : Counts) (l : List ℕ) (c k d s j : ℕ) : Type 0 where
   the-shelf : SettledWord n l d s j → WroteWord n l c k d s j
   the-copy : SentWord n l d s j → WroteWord n l c k d s j
 
--- word j is one that a request to the book l writes where it is done; a setup writes them all
+-- word j is one that a request to the book l writes where it is done; a setup writes them all, a move the crew's home
 pub data Changed (l : List ℕ) : Request → ℕ → Type 0 where
   all-of-it : {n : Counts} {homes : List ℕ} {j : ℕ} → Changed l (setup n homes) j
   reading : {c k j : ℕ} → FoundWord (countsOf l) l c (home l c) (k % countsOf l .shelves) j → Changed l (call (read c k)) j
@@ -139,6 +145,7 @@ pub data Changed (l : List ℕ) : Request → ℕ → Type 0 where
   ticking : {d s j : ℕ} → SentWord (countsOf l) l d s j → Changed l (call (tick d s)) j
   taking : {d s from j : ℕ} → TookWord l d s from j → Changed l (call (take d s from)) j
   refreshing : {d s j : ℕ} → SettledWord (countsOf l) l d s j → Changed l (call (refresh d s)) j
+  moving : {c d j : ℕ} → j ≡ homeAt c → Changed l (call (move c d)) j
 
 -- word j is one that the request writes: a refused one writes none
 pub record Written (l : List ℕ) (r : Request) (j : ℕ) : Type 0 where

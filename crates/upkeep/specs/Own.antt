@@ -6,11 +6,11 @@ use mathlib.Core.Bool.{Bool, true}
 use mathlib.Core.List.{List}
 use lib.Dec.{leb, eqb}
 use lib.ListN.{length}
-use Rattle.paper.specs.Calls.{read, write, tick, take, refresh}
+use Rattle.paper.specs.Calls.{read, write, tick, take, refresh, move}
 use Rattle.book.specs.declared.parts.Counts.{Counts}
 use Rattle.book.specs.Layout.{bookWords, end, countsOf, seen, linkOf}
 use Rattle.fit.specs.Fit.{countsFit, homeFit, crewFit, clockFit, stableFit, headFit, linkFit, storedFit}
-use Rattle.named.specs.Named.{waitingFit, tickFit, takeFit, refreshFit, readFit, writeFit}
+use Rattle.named.specs.Named.{waitingFit, tickFit, takeFit, refreshFit, readFit, writeFit, moveFit}
 use Rattle.upkeep.specs.Requests.{Request, setup, call}
 
 -- the parts that are judged one by one
@@ -67,3 +67,4 @@ fitFor l (call (write c k payload)) = writeFit l c k
 fitFor l (call (tick d s)) = tickFit l d s
 fitFor l (call (take d s from)) = takeFit l d s from
 fitFor l (call (refresh d s)) = refreshFit l d s
+fitFor l (call (move c d)) = moveFit l c d

@@ -4,7 +4,7 @@
 use Prim.Native.Nat.{ℕ}
 use mathlib.Core.List.{List, [], _∷_}
 use Rattle.paper.specs.declared.answer.Payload.{Payload}
-use Rattle.paper.specs.Calls.{Call, read, write, tick, take, refresh, Answer, done, reads, answerBy}
+use Rattle.paper.specs.Calls.{Call, read, write, tick, take, refresh, move, Answer, done, reads, answerBy}
 use Rattle.paper.specs.Answers.{paper, paperRead, paperWrite}
 use Rattle.paper.specs.declared.answer.Answer as plain
 use Rattle.paper.specs.declared.answer.ReadAnswer.{ReadAnswer}
@@ -12,9 +12,9 @@ use Rattle.paper.specs.declared.answer.WriteAnswer.{WriteAnswer}
 use Rattle.book.specs.declared.parts.Counts.{Counts}
 use Rattle.book.specs.Layout.{countsOf}
 use Rattle.register.specs.Answers.{told, written}
-use Rattle.register.specs.Table.{setupNumber, readNumber, writeNumber, tickNumber, takeNumber, refreshNumber}
-use Rattle.register.specs.Calls.{setUp, readRecord, readBook, newStamp, isCurrent, writeBook, tickBook, takeBook, refreshBook}
-use Rattle.register.specs.Promises.{after, Setup, Read, Write, Tick, Take, Refresh}
+use Rattle.register.specs.Table.{setupNumber, readNumber, writeNumber, tickNumber, takeNumber, refreshNumber, moveNumber}
+use Rattle.register.specs.Calls.{setUp, readRecord, readBook, newStamp, isCurrent, writeBook, tickBook, takeBook, refreshBook, moveBook}
+use Rattle.register.specs.Promises.{after, Setup, Read, Write, Tick, Take, Refresh, Move}
 
 -- a setup (counts, homes), or a call
 pub data Request : Type 0 where
@@ -29,6 +29,7 @@ numberAt l (call (write c k payload)) = writeNumber l c k payload
 numberAt l (call (tick d s)) = tickNumber l d s
 numberAt l (call (take d s from)) = takeNumber l d s from
 numberAt l (call (refresh d s)) = refreshNumber l d s
+numberAt l (call (move c d)) = moveNumber l c d
 
 -- what it answers where it is done
 unfoldable pub doneAnswer : List ℕ → Request → Answer
@@ -38,6 +39,7 @@ doneAnswer l (call (write c k payload)) = written (newStamp l c k) (isCurrent l 
 doneAnswer l (call (tick d s)) = done
 doneAnswer l (call (take d s from)) = done
 doneAnswer l (call (refresh d s)) = done
+doneAnswer l (call (move c d)) = done
 
 -- the reply, done or refused
 unfoldable pub replyTo : List ℕ → Request → Answer
@@ -51,6 +53,7 @@ changedBy l (call (write c k payload)) = writeBook l c k payload
 changedBy l (call (tick d s)) = tickBook l d s
 changedBy l (call (take d s from)) = takeBook l d s from
 changedBy l (call (refresh d s)) = refreshBook l d s
+changedBy l (call (move c d)) = moveBook l c d
 
 -- the book after it, done or refused
 unfoldable pub bookAfter : List ℕ → Request → List ℕ
@@ -64,6 +67,7 @@ pub data Called (l l′ : List ℕ) : Request → Answer → Type 0 where
   ticked : {d s : ℕ} {r : plain.Answer} → Tick l d s r l′ → Called l l′ (call (tick d s)) (paper r)
   took : {d s from : ℕ} {r : plain.Answer} → Take l d s from r l′ → Called l l′ (call (take d s from)) (paper r)
   refreshed : {d s : ℕ} {r : plain.Answer} → Refresh l d s r l′ → Called l l′ (call (refresh d s)) (paper r)
+  moved : {c d : ℕ} {r : plain.Answer} → Move l c d r l′ → Called l l′ (call (move c d)) (paper r)
 
 -- requests, one after another, each as its promise has it, lead from a book to another
 pub data Lead : List ℕ → List ℕ → Type 0 where

@@ -30,6 +30,8 @@ pub enum Refusal {
     ClockAtEnd = 10,
     /// A count is out of range, or the homes are not as many as the crews.
     BadCounts = 11,
+    /// A move, and some shelf of the new home has not seen all that the crew has: move again after some rounds.
+    NotHereYet = 12,
     /// A length of the card is not finite, above 0 and at most 2,000.
     BadCard = 14,
     /// The value to write is over [`LAST_DAY`](crate::calendar::LAST_DAY), 146,096.
@@ -37,7 +39,7 @@ pub enum Refusal {
 }
 
 impl Refusal {
-    const ALL: [Refusal; 13] = [
+    const ALL: [Refusal; 14] = [
         Refusal::BadBook,
         Refusal::BadDepot,
         Refusal::BadShelf,
@@ -49,6 +51,7 @@ impl Refusal {
         Refusal::LinkFull,
         Refusal::ClockAtEnd,
         Refusal::BadCounts,
+        Refusal::NotHereYet,
         Refusal::BadCard,
         Refusal::BadDate,
     ];
@@ -82,6 +85,7 @@ impl fmt::Display for Refusal {
             Refusal::LinkFull => "a link out has no room",
             Refusal::ClockAtEnd => "the clock is at its end",
             Refusal::BadCounts => "a count is out of range, or the homes are not as many as the crews",
+            Refusal::NotHereYet => "the new home has not seen all that the crew has",
             Refusal::BadCard => "a length of the card is out of range, or no number",
             Refusal::BadDate => "the day is beyond the calendar",
         })
@@ -132,5 +136,21 @@ impl Written {
         match self {
             Written::Current { stamp } | Written::Superseded { stamp } => stamp,
         }
+    }
+}
+
+/// Which depots store a depot's present version of a bearing or a greater one.
+#[derive(Clone, Copy, Debug, PartialEq, Eq, Hash)]
+pub struct Holders {
+    /// Bit d for depot d.
+    pub mask: u32,
+    /// How many bits are set.
+    pub count: u32,
+}
+
+impl Holders {
+    /// Whether this depot has it.
+    pub fn includes(self, depot: crate::Depot) -> bool {
+        self.mask.checked_shr(depot.0).unwrap_or(0) & 1 == 1
     }
 }

@@ -46,12 +46,13 @@
 //! ```
 
 mod answers;
+pub mod audit;
 pub mod calendar;
 mod card;
 mod numbers;
 pub mod raw;
 
-pub use answers::{Reading, Refusal, Written};
+pub use answers::{Holders, Reading, Refusal, Written};
 pub use card::Card;
 pub use numbers::{Bearing, Crew, Depot, Shelf};
 
@@ -177,6 +178,45 @@ impl Register {
     /// The shelf shows the taken copies that nothing still missing can precede.
     pub fn refresh(&mut self, depot: Depot, shelf: Shelf) -> Result<(), Refusal> {
         Refusal::check(raw::refresh(&mut self.book, depot.0, shelf.0))
+    }
+
+    /// Which depots now store the version of a bearing that this depot has, or a greater one. Looking changes nothing.
+    ///
+    /// ```
+    /// # use depot_register::{Bearing, Card, Counts, Crew, Depot, Holders, Refusal, Register, Shelf};
+    /// # let counts = Counts { depots: 2, shelves: 1, bearings: 1, crews: 1 };
+    /// # let mut register = Register::setup(counts, &[Depot(0)]).unwrap();
+    /// assert_eq!(register.who_has(Depot(0), Bearing(0)), Ok(Holders { mask: 0b11, count: 2 })); // unwritten: all have it
+    /// # let card = Card { diameter: 52.0, width: 15.0 };
+    /// register.write(Crew(0), Bearing(0), 20, card).unwrap();
+    /// assert_eq!(register.who_has(Depot(0), Bearing(0)), Ok(Holders { mask: 0b01, count: 1 }));
+    /// register.take(Depot(1), Shelf(0), Depot(0)).unwrap();
+    /// register.refresh(Depot(1), Shelf(0)).unwrap();
+    /// assert!(register.who_has(Depot(0), Bearing(0)).unwrap().includes(Depot(1)));
+    /// assert_eq!(register.who_has(Depot(2), Bearing(1)), Err(Refusal::BadDepot));
+    /// ```
+    pub fn who_has(&self, depot: Depot, bearing: Bearing) -> Result<Holders, Refusal> {
+        let mut out = [0; 2];
+        Refusal::check(raw::who_has(&self.book, depot.0, bearing.0, &mut out))?;
+        let [mask, count] = out;
+        Ok(Holders { mask, count })
+    }
+
+    /// A crew gets a new home. There it reads nothing lower than what it has read and written so far.
+    ///
+    /// ```
+    /// # use depot_register::{Bearing, Card, Counts, Crew, Depot, Refusal, Register, Shelf};
+    /// # let counts = Counts { depots: 2, shelves: 1, bearings: 1, crews: 1 };
+    /// # let mut register = Register::setup(counts, &[Depot(0)]).unwrap();
+    /// # let card = Card { diameter: 52.0, width: 15.0 };
+    /// register.write(Crew(0), Bearing(0), 20, card).unwrap();
+    /// assert_eq!(register.move_crew(Crew(0), Depot(1)), Err(Refusal::NotHereYet)); // depot 1 has not heard of it
+    /// register.take(Depot(1), Shelf(0), Depot(0)).unwrap();
+    /// assert_eq!(register.move_crew(Crew(0), Depot(1)), Ok(()));
+    /// assert_eq!(register.read(Crew(0), Bearing(0)).unwrap().value(), Some(20));
+    /// ```
+    pub fn move_crew(&mut self, crew: Crew, depot: Depot) -> Result<(), Refusal> {
+        Refusal::check(raw::move_crew(&mut self.book, crew.0, depot.0))
     }
 
     /// The answer to a line of the desk, with its line feed. The line comes without one.

@@ -117,7 +117,7 @@ fn book(random: &mut Random, kind: usize) -> Vec<u32> {
     book
 }
 
-/// A call with numbers in range: a read, a write, a tick, a take or a refresh.
+/// A call with numbers in range: a read, a write, a tick, a take, a refresh or a move.
 fn event(random: &mut Random, n: Counts, kind: usize) -> Event {
     let below = |random: &mut Random, count: usize| random.below(count) as u32;
     let (crew, bearing) = (below(random, n.crews), below(random, n.bearings));
@@ -131,7 +131,8 @@ fn event(random: &mut Random, n: Counts, kind: usize) -> Event {
         }
         2 => Event::Tick { depot, shelf },
         3 => Event::Take { depot, shelf, from },
-        _ => Event::Refresh { depot, shelf },
+        4 => Event::Refresh { depot, shelf },
+        _ => Event::Move { crew, depot },
     }
 }
 
@@ -140,7 +141,7 @@ fn event(random: &mut Random, n: Counts, kind: usize) -> Event {
 fn calls(random: &mut Random, book: &[u32], kind: usize) -> Vec<Called> {
     let n = Counts::of(book);
     let done = |event: &Event| Step::new(event.clone()).run(&Straight, &mut book.to_vec()).number == 0;
-    let mut events: Vec<Event> = (0..5)
+    let mut events: Vec<Event> = (0..6)
         .map(|kind| {
             let mut found = event(random, n, kind);
             for _ in 0..200 {
@@ -157,7 +158,7 @@ fn calls(random: &mut Random, book: &[u32], kind: usize) -> Vec<Called> {
     events.push(match kind {
         0 => Event::Read { crew: 0, bearing: n.bearings as u32 },
         1 => Event::Take { depot: 0, shelf: 0, from: 0 },
-        2 => Event::Write { crew: 0, bearing: n.bearings as u32, value: 0, card: [0, 0] },
+        2 => Event::Move { crew: 0, depot: n.depots as u32 },
         _ => Event::Tick { depot: 0, shelf: n.shelves as u32 },
     });
     if let Event::Write { crew, bearing, card, .. } = events[1] {
@@ -180,6 +181,7 @@ fn name(called: &Called) -> &'static str {
         Event::Tick { .. } => "tick",
         Event::Take { .. } => "take",
         Event::Refresh { .. } => "refresh",
+        Event::Move { .. } => "move",
         Event::Fit => "is_fit",
         _ => "line",
     }
@@ -209,10 +211,13 @@ fn places(book: &[u32], event: &Event, done: bool) -> Places {
         };
         if looked_at {
             piece.used(book, n).into_iter().for_each(|at| places.looks[at] = true);
-            if done && named.is_some() {
+            if done && named.as_ref().is_some_and(|named| named.call != Call::Move) {
                 piece.words(book, n).into_iter().for_each(|at| places.writes[at] = true);
             }
         }
+    }
+    if let Event::Move { crew, .. } = event {
+        places.writes[home(*crew as usize)] = done;
     }
     if let Some(named) = named.filter(|named| done && matches!(named.call, Call::Write | Call::Tick)) {
         for to in (0..n.depots).filter(|&to| to != named.depot) {
@@ -318,7 +323,7 @@ mod tests {
             for message in [(true, COPY), (false, COPY), (false, HEARTBEAT)] {
                 assert!(messages.contains(&message), "book {} has no message {:?}", kind, message);
             }
-            for called in calls(&mut random, &book, kind).iter().take(5) {
+            for called in calls(&mut random, &book, kind).iter().take(6) {
                 assert_eq!(called.step.run(&Straight, &mut book.clone()).number, 0, "book {}: {}", kind, called.step);
             }
         }

@@ -49,6 +49,10 @@ pub enum Event {
         depot: u32,
         shelf: u32,
     },
+    Move {
+        crew: u32,
+        depot: u32,
+    },
     Fit,
     Greater {
         a: Vec<u32>,
@@ -118,6 +122,7 @@ impl Step {
             Event::Tick { depot, shelf } => register.tick(book, *depot, *shelf),
             Event::Take { depot, shelf, from } => register.take(book, *depot, *shelf, *from),
             Event::Refresh { depot, shelf } => register.refresh(book, *depot, *shelf),
+            Event::Move { crew, depot } => register.move_crew(book, *crew, *depot),
             Event::Fit => register.is_fit(book),
             Event::Greater { a, b, depots } => register.greater(a, b, *depots),
             Event::Grams { card } => register.grams(*card, &mut out[..self.room]),
@@ -157,6 +162,7 @@ impl fmt::Display for Step {
             Event::Tick { depot, shelf } => write!(f, "tick depot {} shelf {}", depot, shelf),
             Event::Take { depot, shelf, from } => write!(f, "take at depot {} shelf {} from depot {}", depot, shelf, from),
             Event::Refresh { depot, shelf } => write!(f, "refresh depot {} shelf {}", depot, shelf),
+            Event::Move { crew, depot } => write!(f, "move crew {} to depot {}", crew, depot),
             Event::Fit => write!(f, "is the book fit"),
             Event::Greater { a, b, depots } => write!(f, "greater of {:?} and {:?}, {} depots", a, b, depots),
             Event::Grams { card } => write!(f, "grams of {:#x} {:#x}", card[0], card[1]),

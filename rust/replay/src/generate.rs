@@ -130,10 +130,10 @@ impl Generator {
             Mood::Wrong => self.wrong(book),
             Mood::Damage => self.damage(book),
             Mood::Ends => self.ends(book),
-            Mood::Lines => {
-                let call = self.call(book);
-                Event::Line(lines::text(&call))
-            }
+            Mood::Lines => match self.call(book) {
+                call @ Event::Move { .. } => call,
+                call => Event::Line(lines::text(&call)),
+            },
             _ => self.call(book),
         }
     }
@@ -162,10 +162,10 @@ impl Generator {
         let any = Counts { depots: 2, shelves: 2, bearings: 4, crews: 2 };
         let n = if counts_and_homes(book) { Counts::of(book) } else { any };
         let weights = match self.mood {
-            Mood::Writers | Mood::Ends => [10, 75, 15, 0, 0],
-            Mood::Takers => [15, 0, 0, 70, 15],
-            Mood::Hoard => [2, 45, 3, 50, 0],
-            _ => [20, 25, 15, 25, 15],
+            Mood::Writers | Mood::Ends => [10, 73, 15, 0, 0, 2],
+            Mood::Takers => [15, 0, 0, 65, 15, 5],
+            Mood::Hoard => [2, 45, 3, 49, 0, 1],
+            _ => [20, 25, 15, 25, 10, 5],
         };
         let (depot, shelf) = (self.random.below(n.depots) as u32, self.random.below(n.shelves) as u32);
         let mut at = self.random.below(100);
@@ -179,7 +179,8 @@ impl Generator {
             1 => self.write(book, n),
             2 => Event::Tick { depot, shelf },
             3 => self.take(book, n),
-            _ => Event::Refresh { depot, shelf },
+            4 => Event::Refresh { depot, shelf },
+            _ => Event::Move { crew: self.random.below(n.crews) as u32, depot },
         }
     }
 
@@ -285,6 +286,10 @@ impl Generator {
             Event::Tick { depot, shelf } | Event::Refresh { depot, shelf } => {
                 spoil(depot, n.depots);
                 spoil(shelf, n.shelves);
+            }
+            Event::Move { crew, depot } => {
+                spoil(crew, n.crews);
+                spoil(depot, n.depots);
             }
             Event::Take { depot, shelf, from } => {
                 spoil(depot, n.depots);

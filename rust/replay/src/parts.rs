@@ -13,9 +13,10 @@ pub enum Call {
     Tick,
     Take,
     Refresh,
+    Move,
 }
 
-pub const CALLS: [Call; 5] = [Call::Read, Call::Write, Call::Tick, Call::Take, Call::Refresh];
+pub const CALLS: [Call; 6] = [Call::Read, Call::Write, Call::Tick, Call::Take, Call::Refresh, Call::Move];
 
 /// What a piece of the book is to a call on shelf s of depot d. Each piece is one of these.
 #[derive(Clone, Copy, Debug, PartialEq, Eq)]
@@ -95,6 +96,7 @@ pub fn looks(call: Call, part: Part) -> bool {
         Call::Tick => tick,
         Call::Take => matches!(part, SeenFrom | HeadsIn | UntakenIn),
         Call::Refresh => matches!(part, SeenHere | SeenBeside) || raise_and_show,
+        Call::Move => matches!(part, CrewVector | SeenHere | SeenBeside),
         Call::Read => read,
         Call::Write => read || tick,
     }
@@ -103,7 +105,8 @@ pub fn looks(call: Call, part: Part) -> bool {
 /// Whether a part means anything to a call: a tick names no crew.
 pub fn means(call: Call, part: Part) -> bool {
     match part {
-        Part::CrewVector | Part::StoredNamed => matches!(call, Call::Read | Call::Write),
+        Part::CrewVector => matches!(call, Call::Read | Call::Write | Call::Move),
+        Part::StoredNamed => matches!(call, Call::Read | Call::Write),
         Part::SeenFrom | Part::OtherHeadsIn | Part::OtherMessagesIn => call == Call::Take,
         _ => true,
     }
@@ -249,6 +252,10 @@ impl Named {
             Event::Tick { depot, shelf } => shelf_call(Call::Tick, depot, shelf, None),
             Event::Take { depot, shelf, from } => shelf_call(Call::Take, depot, shelf, Some(from)),
             Event::Refresh { depot, shelf } => shelf_call(Call::Refresh, depot, shelf, None),
+            // A move is to all shelves of the new home; the first stands for them.
+            Event::Move { crew, depot } => shelf_call(Call::Move, depot, 0, None)
+                .filter(|_| (crew as usize) < n.crews)
+                .map(|(call, depot, shelf, _, bearing, from)| (call, depot, shelf, Some(crew as usize), bearing, from)),
             _ => None,
         }?;
         let (mut taken_ones, mut untaken_ones) = (Vec::new(), Vec::new());

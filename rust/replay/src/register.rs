@@ -8,6 +8,7 @@ pub trait Register {
     fn tick(&self, book: &mut [u32], depot: u32, shelf: u32) -> u32;
     fn take(&self, book: &mut [u32], depot: u32, shelf: u32, from: u32) -> u32;
     fn refresh(&self, book: &mut [u32], depot: u32, shelf: u32) -> u32;
+    fn move_crew(&self, book: &mut [u32], crew: u32, depot: u32) -> u32;
     fn is_fit(&self, book: &[u32]) -> u32;
     fn greater(&self, a: &[u32], b: &[u32], depots: u32) -> u32;
     fn grams(&self, card: [u32; 2], out: &mut [u32]) -> u32;
@@ -91,6 +92,10 @@ impl Register for Straight {
         number(straight::refresh(book, depot, shelf))
     }
 
+    fn move_crew(&self, book: &mut [u32], crew: u32, depot: u32) -> u32 {
+        number(straight::move_crew(book, crew, depot))
+    }
+
     fn is_fit(&self, book: &[u32]) -> u32 {
         straight::is_fit(book) as u32
     }
@@ -142,6 +147,10 @@ impl Register for Library {
 
     fn refresh(&self, book: &mut [u32], depot: u32, shelf: u32) -> u32 {
         depot_register::raw::refresh(book, depot, shelf)
+    }
+
+    fn move_crew(&self, book: &mut [u32], crew: u32, depot: u32) -> u32 {
+        depot_register::raw::move_crew(book, crew, depot)
     }
 
     fn is_fit(&self, book: &[u32]) -> u32 {

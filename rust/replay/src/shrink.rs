@@ -195,6 +195,7 @@ fn numbers(event: &mut Event) -> Vec<&mut u32> {
         Event::Grams { card } => card.iter_mut().collect(),
         Event::Tick { depot, shelf } | Event::Refresh { depot, shelf } => vec![depot, shelf],
         Event::Take { depot, shelf, from } => vec![depot, shelf, from],
+        Event::Move { crew, depot } => vec![crew, depot],
         Event::Greater { a, b, depots } => a.iter_mut().chain(b).chain(Some(depots)).collect(),
         Event::Fit | Event::Line(_) => Vec::new(),
     }

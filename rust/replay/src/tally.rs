@@ -7,10 +7,10 @@ use straight::calendar::LAST_DAY;
 use straight::layout::*;
 use straight::Counts;
 
-const CALLS: [&str; 7] = ["setup", "read", "write", "tick", "take", "refresh", "line"];
+const CALLS: [&str; 8] = ["setup", "read", "write", "tick", "take", "refresh", "line", "move"];
 const NAMES: [&str; 17] = [
     "done", "BAD BOOK", "BAD DEPOT", "BAD SHELF", "BAD KEY", "BAD CREW", "SAME DEPOT", "EMPTY LINK", "WAIT", "LINK FULL",
-    "CLOCK AT END", "BAD COUNTS", "", "BAD LINE", "BAD CARD", "", "BAD DATE",
+    "CLOCK AT END", "BAD COUNTS", "NOT HERE YET", "BAD LINE", "BAD CARD", "", "BAD DATE",
 ];
 
 macro_rules! marks {
@@ -73,6 +73,13 @@ marks! {
     BeatBehind: "a heartbeat taken from behind taken copies",
     BeatBefore: "a heartbeat taken with messages behind it",
     SeenFalls: "a take that lowers the stamp seen",
+    Moved: "a move done to another depot",
+    MovedFar: "a move of a crew that has heard of another depot than the new home, done",
+    OwnAbove: "a move done with the new home's own entry above every stamp seen there",
+    ToPresent: "a move to the present home, done",
+    PresentBehind: "a move to the present home, done, that has not seen all that the crew has",
+    OneBehind: "NOT HERE YET, and one shelf of the new home has seen it all",
+    OtherBehind: "NOT HERE YET for another depot than the present home",
     Laid: "a fit book laid out at random",
     Unfit: "a word changed, and the book is not fit",
     DoneUnfit: "a call done on a book that is not fit elsewhere",
@@ -98,7 +105,7 @@ pub struct Tally {
     pub events: u64,
     /// Lines that are BAD LINE.
     pub bad_lines: u64,
-    answers: [[u64; 17]; 7],
+    answers: [[u64; 17]; 8],
     marks: Vec<u64>,
     /// Whether the book is fit, as far as the last event that says so told.
     fit: bool,
@@ -106,7 +113,7 @@ pub struct Tally {
 
 impl Default for Tally {
     fn default() -> Tally {
-        Tally { events: 0, bad_lines: 0, answers: [[0; 17]; 7], marks: vec![0; MARKS.len()], fit: false }
+        Tally { events: 0, bad_lines: 0, answers: [[0; 17]; 8], marks: vec![0; MARKS.len()], fit: false }
     }
 }
 
@@ -224,7 +231,31 @@ impl Tally {
                 self.mark_if(less, Mark::NotLowered);
                 self.shelf(n, before, after, depot, shelf);
             }
+            Event::Move { crew, depot } if done || outcome.number == 12 => {
+                self.moved(n, before, *crew as usize, *depot as usize, done);
+            }
             _ => {}
+        }
+    }
+
+    /// What stands at the new home of a crew that may move, or may not yet.
+    fn moved(&mut self, n: Counts, book: &[u32], crew: usize, depot: usize, done: bool) {
+        let present = book[home(crew)] as usize;
+        let entry = |x: usize| book[crew_vector(crew) + x];
+        let behind = |shelf: usize, x: usize| x != depot && entry(x) > book[seen(depot, shelf, x)];
+        let shelf_behind = |shelf: usize| (0..n.depots).any(|x| behind(shelf, x));
+        let depot_behind = |x: usize| (0..n.shelves).any(|shelf| behind(shelf, x));
+        if !done {
+            self.mark_if(!(0..n.shelves).all(shelf_behind), Mark::OneBehind);
+            self.mark_if((0..n.depots).any(|x| x != present && depot_behind(x)), Mark::OtherBehind);
+        } else if present == depot {
+            self.mark(Mark::ToPresent);
+            self.mark_if((0..n.shelves).any(shelf_behind), Mark::PresentBehind);
+        } else {
+            self.mark(Mark::Moved);
+            self.mark_if((0..n.depots).any(|x| x != depot && entry(x) > 0), Mark::MovedFar);
+            let above = |shelf: usize| (0..n.depots).all(|x| entry(depot) > book[seen(depot, shelf, x)]);
+            self.mark_if((0..n.shelves).all(above), Mark::OwnAbove);
         }
     }
 
@@ -238,12 +269,13 @@ impl Tally {
             Event::Take { .. } => 4,
             Event::Refresh { .. } => 5,
             Event::Line(_) => 6,
+            Event::Move { .. } => 7,
             _ => {
                 self.events += 1;
                 return false;
             }
         };
-        let number = if row < 6 {
+        let number = if row != 6 {
             outcome.number
         } else {
             let first = outcome.bytes[..outcome.number].split(|byte| b" \n".contains(byte)).next().unwrap_or(b"");
@@ -260,7 +292,7 @@ impl Tally {
         } else {
             self.events += 1;
         }
-        number == 0 && row < 6
+        number == 0 && row != 6
     }
 
     /// What a book that is not fit did to a call that met it.
@@ -281,6 +313,7 @@ impl Tally {
         let call = matches!(
             step.event,
             Event::Read { .. } | Event::Write { .. } | Event::Tick { .. } | Event::Take { .. } | Event::Refresh { .. }
+                | Event::Move { .. }
         );
         if call && !self.fit {
             let by_part = outcome.number == 1 && straight::counts_and_homes(&before[..WORDS]);

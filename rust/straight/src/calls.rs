@@ -1,4 +1,4 @@
-//! The six calls. Each checks in the order of the specification's table, then acts; a refusal moves no word.
+//! The calls. Each checks in the order of the specification's table, then acts; a refusal moves no word.
 //!
 //! BAD BOOK comes first in that table, for the length, the counts, the homes and the parts that the call names. A number out
 //! of range names no part, so each call checks its numbers between the two.
@@ -165,14 +165,51 @@ pub fn refresh(book: &mut [u32], depot: u32, shelf: u32) -> Result<(), Refusal> 
     let shelf = below(shelf, n.shelves, Refusal::BadShelf)?;
     fit(looks::refresh(book, n, depot, shelf))?;
 
-    let mut lowest = [END; 4];
-    for from in 0..n.depots {
-        for any in 0..n.shelves {
-            lowest[from] = lowest[from].min(book[seen(depot, any, from)]);
-        }
-    }
+    let lowest = lowest_seen(book, n, depot);
     raise_and_show(book, n, depot, shelf, lowest);
     Ok(())
+}
+
+/// A crew gets a new home. NOT HERE YET if that is another depot and some shelf there has not yet seen all that the crew has
+/// heard of the depots other than it.
+pub fn move_crew(book: &mut [u32], crew: u32, depot: u32) -> Result<(), Refusal> {
+    let n = counts(book)?;
+    let crew = below(crew, n.crews, Refusal::BadCrew)?;
+    let depot = below(depot, n.depots, Refusal::BadDepot)?;
+    fit(looks::move_crew(book, n, crew, depot))?;
+    if book[home(crew)] as usize == depot {
+        return Ok(());
+    }
+    let lowest = lowest_seen(book, n, depot);
+    for x in (0..n.depots).filter(|&x| x != depot) {
+        if book[crew_vector(crew) + x] > lowest[x] {
+            return Err(Refusal::NotHereYet);
+        }
+    }
+    book[home(crew)] = depot as u32;
+    Ok(())
+}
+
+/// Which depots now store a depot's present version of a bearing or a greater one: a bit for each depot, and how many bits
+/// are set. One with the same vector and origin is neither below nor above, and counts as that version. If the asked depot's
+/// is unwritten, all depots have it.
+pub fn who_has(book: &[u32], depot: u32, bearing: u32) -> Result<(u32, u32), Refusal> {
+    let n = counts(book)?;
+    let depot = below(depot, n.depots, Refusal::BadDepot)?;
+    let bearing = below(bearing, n.bearings, Refusal::BadKey)?;
+    fit(looks::who_has(book, n, bearing))?;
+
+    let asked = &book[stored(depot, bearing)..][..RECORD];
+    let mut mask = 0;
+    let mut count = 0;
+    for any in 0..n.depots {
+        let there = &book[stored(any, bearing)..][..RECORD];
+        if !above(asked, there, n.depots) {
+            mask |= 1 << any;
+            count += 1;
+        }
+    }
+    Ok((mask, count))
 }
 
 /// The counts of a book whose length, counts and homes are fit.
@@ -204,6 +241,17 @@ pub fn vector(book: &[u32], n: Counts, at: usize) -> [u32; 4] {
     let mut entries = [0; 4];
     entries[..n.depots].copy_from_slice(&book[at..at + n.depots]);
     entries
+}
+
+/// The lowest stamp that any shelf of a depot has seen from each depot; what it says of the depot itself means nothing.
+fn lowest_seen(book: &[u32], n: Counts, depot: usize) -> [u32; 4] {
+    let mut lowest = [END; 4];
+    for from in 0..n.depots {
+        for shelf in 0..n.shelves {
+            lowest[from] = lowest[from].min(book[seen(depot, shelf, from)]);
+        }
+    }
+    lowest
 }
 
 /// The other depots' entries of the stable vector rise to what is offered; then each incoming link is shown, from depot 0 on.

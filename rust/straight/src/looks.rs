@@ -35,6 +35,16 @@ pub fn write(book: &[u32], n: Counts, crew: usize, bearing: usize) -> bool {
     read(book, n, crew, bearing) && tick(book, n, depot, bearing % n.shelves)
 }
 
+/// The stored versions of the bearing at every depot.
+pub fn who_has(book: &[u32], n: Counts, bearing: usize) -> bool {
+    (0..n.depots).all(|depot| stored_is_fit(book, n, depot, bearing))
+}
+
+/// The crew's vector; the stamps seen on all shelves of the new home.
+pub fn move_crew(book: &[u32], n: Counts, crew: usize, depot: usize) -> bool {
+    crew_vector_is_fit(book, n, crew) && (0..n.shelves).all(|shelf| seen_are_fit(book, n, depot, shelf))
+}
+
 /// The stable vector; each link in, head and messages; the stored version of the bearing of each taken copy on them.
 fn raise_and_show(book: &[u32], n: Counts, depot: usize, shelf: usize) -> bool {
     stable_is_fit(book, n, depot, shelf)

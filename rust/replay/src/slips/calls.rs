@@ -249,6 +249,49 @@ impl Slipped {
         Ok(())
     }
 
+    pub(super) fn call_move(&self, book: &mut [u32], crew: u32, depot: u32) -> Answer<()> {
+        let event = Event::Move { crew, depot };
+        let n = self.counts(book, &event)?;
+        if self.has(Slip::MoveDepotFirst) {
+            below(depot, n.depots, Refusal::BadDepot)?;
+        }
+        let crew = below(crew, n.crews, Refusal::BadCrew)?;
+        let depot = below(depot, n.depots, Refusal::BadDepot)?;
+        let present = book[home(crew)] as usize;
+        let at = if self.has(Slip::MovePresentStamps) { present.min(3) } else { depot };
+        let seen_from = |x: usize| {
+            let stamps = (0..n.shelves).map(|shelf| book[seen(at, shelf, x)]);
+            if self.has(Slip::MoveHighest) { stamps.max() } else { stamps.min() }.unwrap_or(0)
+        };
+        let counts = |x: usize| match self.0 {
+            Slip::MoveOwnEntry => true,
+            Slip::MovePresentEntry => x == present,
+            _ => x != depot,
+        };
+        let above = |x: usize| {
+            let entry = book[crew_vector(crew) + x];
+            entry > seen_from(x) || (self.has(Slip::MoveAtEqual) && entry == seen_from(x))
+        };
+        let behind = (0..n.depots).any(|x| counts(x) && above(x));
+        let refused = behind && (present != depot || self.has(Slip::MovePresentShut));
+        if refused && self.has(Slip::MoveBeforeParts) {
+            return Err(Refusal::NotHereYet);
+        }
+        if !(self.has(Slip::MovePresentNames) && present == depot) {
+            self.look(book, n, &event)?;
+        }
+        if !refused || self.has(Slip::MoveAnyway) {
+            book[home(crew)] = depot as u32;
+        }
+        if refused {
+            return Err(Refusal::NotHereYet);
+        }
+        if self.has(Slip::MoveClears) {
+            book[crew_vector(crew)..][..n.depots].fill(0);
+        }
+        Ok(())
+    }
+
     /// Whether a value is beyond the calendar.
     /// Whether a write's two words are a card.
     fn card(&self, card: [u32; 2]) -> bool {

@@ -19,7 +19,7 @@ impl Slipped {
         n.crews = n.crews.min(MOST_CREWS as usize);
         let fit = match (self.0, event) {
             (Slip::HomesLate, _) => true,
-            (Slip::OwnHomeOnly, Event::Read { crew, .. } | Event::Write { crew, .. }) => {
+            (Slip::OwnHomeOnly, Event::Read { crew, .. } | Event::Write { crew, .. } | Event::Move { crew, .. }) => {
                 *crew as usize >= n.crews || (book[home(*crew as usize)] as usize) < n.depots
             }
             (Slip::OwnHomeOnly, _) => true,

@@ -279,6 +279,28 @@ slips! {
     MendsClocks,
     /// A tick clears a message that is not fit in front of its own.
     MendsMessages,
+    /// A move tests the new home's own entry too.
+    MoveOwnEntry,
+    /// A move tests the stamps seen at the present home.
+    MovePresentStamps,
+    /// A move tests the highest stamp seen, not the lowest.
+    MoveHighest,
+    /// A move tests the stamps seen from the present home only.
+    MovePresentEntry,
+    /// A move to the present home is tested as any other.
+    MovePresentShut,
+    /// A move waits at an equal stamp too.
+    MoveAtEqual,
+    /// A move clears the crew's vector.
+    MoveClears,
+    /// A move that is refused moves the crew all the same.
+    MoveAnyway,
+    /// Move: the depot is checked before the crew.
+    MoveDepotFirst,
+    /// Move: NOT HERE YET is noticed before the parts are looked at.
+    MoveBeforeParts,
+    /// A move to the present home looks at no part.
+    MovePresentNames,
     /// A line of 121 bytes passes.
     Line121,
     /// A line of 120 bytes is too long.
@@ -337,6 +359,10 @@ impl Register for Slipped {
 
     fn refresh(&self, book: &mut [u32], depot: u32, shelf: u32) -> u32 {
         number(self.call_refresh(book, depot, shelf))
+    }
+
+    fn move_crew(&self, book: &mut [u32], crew: u32, depot: u32) -> u32 {
+        number(self.call_move(book, crew, depot))
     }
 
     fn is_fit(&self, book: &[u32]) -> u32 {

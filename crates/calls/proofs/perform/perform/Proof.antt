@@ -1,6 +1,6 @@
 -- `calls::perform::perform` meets its contract: the promise of the call that the request names settles reply and book.
 -- Assumes nothing.
-use Rattle.upkeep.specs.Requests.{set-up, did-read, did-write, ticked, took, refreshed}
+use Rattle.upkeep.specs.Requests.{set-up, did-read, did-write, ticked, took, refreshed, moved}
 use Rattle.calls.proofs.ReplyLaws.{holds-as, performed}
 use borrow.Author.Needs.{needs}
 use Rattle.calls.proofs.perform.perform.Statement.{statement}
@@ -42,10 +42,19 @@ returns-6 c =
     let reply = c .answered4 .ensures in
     performed _ (c .before .before .before .before .before .before .request6 .given .1) (refreshed promise) (reply .0) (reply .1)
 
+returns-7 : tie.Need-returns-7
+returns-7 c =
+    let promise = c .before .before .before .move-crew .ensures in
+    let reply = c .answered5 .ensures in
+    performed _ (c .before .before .before .before .before .before .request7 .given .1) (moved promise) (reply .0) (reply .1)
+
 pub perform-spec : {M : Type 1} → statement M
 perform-spec =
     tie.close
     (tie.spec
+    (λ c. search needs)
+    (λ c κs. search needs)
+    (λ c κs. search needs)
     (λ c. search needs)
     (λ c κs. search needs)
     (λ c κs. search needs)
@@ -75,4 +84,6 @@ perform-spec =
     (λ c. search needs)
     returns-5
     (λ c. search needs)
-    returns-6)
+    returns-6
+    (λ c. search needs)
+    returns-7)

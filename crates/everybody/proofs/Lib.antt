@@ -1,0 +1,2 @@
+pub mod Reaches
+pub mod ListingWho

@@ -1,0 +1,2 @@
+pub mod Everybody
+pub mod Listing

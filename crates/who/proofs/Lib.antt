@@ -1,0 +1,4 @@
+pub mod MaskLaws
+pub mod WhoLaws
+pub mod Unique
+pub mod Telling
