@@ -1,5 +1,7 @@
 // The register as C calls it: each function makes one call and gives the number of its answer. include/depot_register.h declares them.
+pub mod audit;
 pub mod days;
+pub mod frames;
 pub mod moves;
 
 use book::parts::wide;
@@ -104,7 +106,8 @@ pub extern "C" fn depot_write(
     ensures { λ r. ⌜ now (book .exit)
         ≡ inRoom writeWords (now (out .entry)) (bookAfter (now (book .entry)) (call (write crew bearing (record { value = value; diameter = diameter; width = width })))) (now (book .entry)) ⌝ }
     ensures { λ r. ⌜ now (out .exit)
-        ≡ inRoom writeWords (now (out .entry)) (filled (wordsOf (replyTo (now (book .entry)) (call (write crew bearing (record { value = value; diameter = diameter; width = width }))))) (now (out .entry))) (now (out .entry)) ⌝ }
+        ≡ inRoom writeWords (now (out .entry)) (filled (wordsOf (replyTo (now (book .entry)) (call (write crew bearing
+        (record { value = value; diameter = diameter; width = width }))))) (now (out .entry))) (now (out .entry)) ⌝ }
 {
     let payload = Payload {
         value,

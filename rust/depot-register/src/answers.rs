@@ -39,7 +39,7 @@ pub enum Refusal {
 }
 
 impl Refusal {
-    const ALL: [Refusal; 13] = [
+    const ALL: [Refusal; 14] = [
         Refusal::BadBook,
         Refusal::BadDepot,
         Refusal::BadShelf,

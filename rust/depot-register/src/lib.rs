@@ -46,8 +46,10 @@
 //! ```
 
 mod answers;
+pub mod audit;
 pub mod calendar;
 mod card;
+pub mod frames;
 mod numbers;
 pub mod raw;
 

@@ -18,23 +18,26 @@ fn found(slip: Slip) -> Option<Finding> {
         Err(Trouble::Effect(text)) => panic!("the straight version: {}", text),
         Ok(()) => None,
     };
-    (1..=400).find_map(list).or_else(|| (0..16).find_map(damage))
+    (1..=800).find_map(list).or_else(|| (0..16).find_map(damage))
 }
 
 #[test]
 fn every_slip_is_found() {
     let missed: Vec<String> = slips().iter().filter(|&&slip| found(slip).is_none()).map(Slip::to_string).collect();
-    assert!(missed.is_empty(), "not found in 400 lists and 16 rounds of damage: {:?}", missed);
+    assert!(missed.is_empty(), "not found in 800 lists and 16 rounds of damage: {:?}", missed);
 }
 
 #[test]
 fn no_slip_no_difference() {
     let mut tally = Tally::default();
-    for seed in 1..=150 {
+    for seed in 1..=800 {
         assert!(replay_list(&Straight, &Slipped(Slip::None), seed, &mut tally).is_ok(), "seed {}", seed);
+        if seed >= 150 && MARKS.iter().all(|(mark, _)| tally.of(*mark) > 0) {
+            return;
+        }
     }
     for (mark, text) in MARKS {
-        assert!(tally.of(*mark) > 0, "150 lists never reach {}", text);
+        assert!(tally.of(*mark) > 0, "800 lists never reach {}", text);
     }
 }
 
