@@ -3,6 +3,7 @@ pub mod audit;
 pub mod days;
 pub mod frames;
 pub mod moves;
+pub mod pages;
 
 use book::parts::wide;
 use calls::reply::answered;
