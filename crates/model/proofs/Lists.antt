@@ -12,13 +12,13 @@ use lib.ListN.{length, getD}
 use borrow.Author.Tests.{ltb-true, lt-leb}
 use Rattle.loops.specs.Loops.{pick}
 use Rattle.loops.proofs.BoolLaws.{and-left}
-use Rattle.order.specs.Vector.{Vec}
+use Rattle.order.specs.Vector.{Vec, merged}
 use Rattle.order.proofs.VectorLaws.{covered-intro}
 use Rattle.model.specs.Parts.{Counts, Version, Write, Shelf, State, setCrew, unwritten}
 use Rattle.paper.specs.Calls.{Call, read, list, Told, reads, listed, first}
-use Rattle.model.specs.Calls.{Outcome, told, allBelow, setup, shelfOf, homeShelf, answered, pageVector, paged, onPage, refusal, reading, listing, acted}
+use Rattle.model.specs.Calls.{Outcome, told, allBelow, gathered, setup, shelfOf, homeShelf, answered, pageVector, paged, onPage, refusal, reading, listing, acted}
 use Rattle.model.specs.System.{ofModel, run}
-use Rattle.model.specs.Demands.{AtLeast, Tells, by-list, Made, Done, ReadAnswers}
+use Rattle.model.specs.Demands.{AtLeast, Tells, by-list, MadeAt, now, earlier, Made, Past, Done, ReadAnswers}
 use Rattle.model.specs.Page.{OnePage}
 use Rattle.model.proofs.Places.{Other}
 use Rattle.model.proofs.Showing.{AtMost}
@@ -45,6 +45,12 @@ read-passes π σ c k hc hk = rw (lt-leb (π .crews) c hc, lt-leb (π .bearings)
 one-below : (n k : ℕ) → allBelow n (k ∷ []) ≡ true → k < n
 unfolding allBelow
 one-below n k e = ltb-true k n (and-left (ltb k n) true e)
+
+-- what is gathered is below what all of it is below
+gathered-below : (b : ℕ) (v : Vec) (f : ℕ → Vec) (l : List ℕ) (x : ℕ) → v x ≤ b → ((k : ℕ) → f k x ≤ b) → gathered v f l x ≤ b
+unfolding gathered merged
+gathered-below b v f [] x h k = h
+gathered-below b v f (j ∷ l) x h k = gathered-below b (merged v (f j)) f l x (let a = k j in omega arith) k
 
 module _ (π : Counts) (homes : List ℕ) (u : SetUp π homes) (h : List Call) (c : ℕ) (ks : List ℕ) (e : Done (ofModel π homes) h (list c ks)) where
   abbrev σ : State
@@ -74,6 +80,19 @@ module _ (π : Counts) (homes : List ℕ) (u : SetUp π homes) (h : List Call) (
       (subst (λ (g : Shelf). AtMost (π .depots) (w .version) (g .store (w .bearing))) (sym (page-shelf π c σ (shelfOf π (w .bearing)) (shelf-below π u (w .bearing))))
       (offered-has π homes u h w m d (pageVector π c σ) (inv π homes u h .sound .crews c hc .depot) (page-offered π c σ (Made (ofModel π homes) h) (inv π homes u h .sound) hc) below))
       (made-or (w .bearing))
+
+  -- no answer is lower than a write to that bearing in the crew's past, the other answers counted
+  pub list-past : (w : Write) → Past π (ofModel π homes) (list c ks ∷ h) c w → AtLeast (π .depots) (onPage π c (w .bearing) σ) (w .version)
+  list-past w p = page-has w (before (past-made π homes u p)) (λ x o.
+      le-trans (past-below π homes u p x) (subst (λ (v : Vec). v x ≤ pageVector π c σ x) (sym (list-crew π homes h c ks e))
+      (gathered-below _ (σ .crew c) _ ks x (page-crew π c σ x) (λ k. page-within π c σ (Made (ofModel π homes) h) (inv π homes u h .sound) hc (shelf-below π u) k x o))))
+    where
+      at-before : {g : List Call} {b : ℕ} → MadeAt (ofModel π homes) (list c ks ∷ h) g b w → MadeAt (ofModel π homes) h g b w
+      at-before (now t) = absurd (let q = t .makes .1 in let z : _≡_ {A = ℕ} 0 1 = cc in omega arith)
+      at-before (earlier m) = m
+
+      before : Made (ofModel π homes) (list c ks ∷ h) w → Made (ofModel π homes) h w
+      before m = record { before = m .before; author = m .author; at = at-before (m .at) }
 
   -- each answer is what a read promises of its answer
   pub listed-answers : (k : ℕ) → List·Memᴰ k ks → ReadAnswers π (ofModel π homes) h (list c ks) c k (onPage π c k σ)
