@@ -27,6 +27,8 @@ extern "C" {
 #define DEPOT_BOOK_WORDS 16384 /* words of a book */
 #define DEPOT_RECORD_WORDS 9   /* words of a version record */
 #define DEPOT_READ_WORDS 8     /* room that depot_read's answer takes in `out` */
+#define DEPOT_LIST_WORDS 64    /* the same of depot_list: DEPOT_READ_WORDS for each of DEPOT_MOST_LISTED bearings */
+#define DEPOT_MOST_LISTED 8    /* the most bearings that a list may name */
 #define DEPOT_WRITE_WORDS 2    /* room that depot_write's answer takes in `out` */
 #define DEPOT_WHO_WORDS 2      /* room that depot_who_has's answer takes in `out` */
 #define DEPOT_GRAMS_WORDS 2    /* room that depot_grams' answer takes in `out` */
@@ -61,6 +63,7 @@ enum depot_answer {
                               * that any shelf of the new home has seen from it */
     DEPOT_BAD_LINE = 13,     /* depot_line only */
     DEPOT_BAD_CARD = 14,     /* a write, or the grams, and a length is not finite, above 0 and at most 2,000 */
+    DEPOT_BAD_LIST = 15,     /* a list of no bearings, or of more than DEPOT_MOST_LISTED */
     DEPOT_BAD_DATE = 16      /* a write, and the value is over DEPOT_LAST_DAY */
 };
 
@@ -102,6 +105,14 @@ uint32_t depot_refresh(uint32_t *book, size_t words, uint32_t depot, uint32_t sh
  * Done: bit d of out[0] is set if depot d has it, the depot itself among them; out[1] is how many bits are set. If what
  * the depot has is unwritten, all depots have it. No other element of `out` is written. */
 uint32_t depot_who_has(const uint32_t *book, size_t words, uint32_t depot, uint32_t bearing, uint32_t *out, size_t out_count);
+
+/* A crew reads a list of 1 to DEPOT_MOST_LISTED bearings at its home, at one moment: no answer rests on a write to another
+ * bearing of the list that is above that bearing's own answer. `bearings` points to count numbers; the same may stand twice.
+ * Checks: 100 if out_count is below DEPOT_LIST_WORDS, 1, 5, 15, 4.
+ * Done: for the i-th of the list out[8 * i] to out[8 * i + 7] are as depot_read leaves them; all words up to DEPOT_LIST_WORDS
+ * behind the last are 0. No other element of `out` is written. */
+uint32_t depot_list(uint32_t *book, size_t words, uint32_t crew, const uint32_t *bearings, size_t count, uint32_t *out,
+                    size_t out_count);
 
 /* A crew gets a new home, `depot`. It is let in when every shelf there has seen what the crew has seen of every other depot,
  * so it reads there nothing lower than its past. To its present home it may always move; that changes nothing. One word of

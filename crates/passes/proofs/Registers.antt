@@ -185,11 +185,14 @@ module _ (π : Counts) (homes : List ℕ) where
           let js = l .0 in
           let p : b ≡ c = cc in
           let q : js ≡ ks = cc in
-          let at = in-place (w .bearing) ks (subst (λ (y : List ℕ). List·Memᴰ (w .bearing) y) q (l .2)) in
-          (at .0, at .1, unfold lists in
-          ap (lists h c) (at .2)
-          ∙ ap₂ (λ (x : ℕ) (y : Version). record { kind = 1; crew = x; write = record { bearing = w .bearing; version = y } }) (sym p)
-          (sym (l .3 ∙ ap (λ (x : ℕ). onPage π x (w .bearing) (run π homes h)) p))))
+          let at = in-place (w .bearing) ks (subst (λ (y : List ℕ). List·Memᴰ (w .bearing) y) q (l .2)) in (
+            at .0,
+            at .1,
+            unfold lists in
+                ap (lists h c) (at .2)
+                ∙ ap₂ (λ (x : ℕ) (y : Version). record { kind = 1; crew = x; write = record { bearing = w .bearing; version = y } }) (sym p)
+                (sym (l .3 ∙ ap (λ (x : ℕ). onPage π x (w .bearing) (run π homes h)) p)),
+          ))
           (t .gets)
 
   telling : (h : List Call) (q : Call) → refusal π (run π homes h) q ≡ 0 → (new : List Entry) × Told S h q new
@@ -203,7 +206,6 @@ module _ (π : Counts) (homes : List ℕ) where
       ([], quiet h _ (λ c k p. let z : _≡_ {A = ℕ} 0 1 = cc in omega arith) (λ c k p. let z : _≡_ {A = ℕ} 0 1 = cc in omega arith) (λ c k v p. let z : _≡_ {A = ℕ} 0 1 = cc in omega arith))
   telling h (move c d) e =
       ([], quiet h _ (λ b k p. let z : _≡_ {A = ℕ} 0 1 = cc in omega arith) (λ b k p. let z : _≡_ {A = ℕ} 0 1 = cc in omega arith) (λ b k v p. let z : _≡_ {A = ℕ} 0 1 = cc in omega arith))
-
   telling h (list c ks) e = (_, list-told h c ks e)
 
   log : (h : List Call) → (es : List Entry) × Logged S h es

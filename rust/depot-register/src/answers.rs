@@ -34,12 +34,14 @@ pub enum Refusal {
     NotHereYet = 12,
     /// A length of the card is not finite, above 0 and at most 2,000.
     BadCard = 14,
+    /// A list names no bearing, or more than 8.
+    BadList = 15,
     /// The value to write is over [`LAST_DAY`](crate::calendar::LAST_DAY), 146,096.
     BadDate = 16,
 }
 
 impl Refusal {
-    const ALL: [Refusal; 14] = [
+    const ALL: [Refusal; 15] = [
         Refusal::BadBook,
         Refusal::BadDepot,
         Refusal::BadShelf,
@@ -53,6 +55,7 @@ impl Refusal {
         Refusal::BadCounts,
         Refusal::NotHereYet,
         Refusal::BadCard,
+        Refusal::BadList,
         Refusal::BadDate,
     ];
 
@@ -87,6 +90,7 @@ impl fmt::Display for Refusal {
             Refusal::BadCounts => "a count is out of range, or the homes are not as many as the crews",
             Refusal::NotHereYet => "the new home has not seen all that the crew has",
             Refusal::BadCard => "a length of the card is out of range, or no number",
+            Refusal::BadList => "the list names no bearing, or more than eight",
             Refusal::BadDate => "the day is beyond the calendar",
         })
     }

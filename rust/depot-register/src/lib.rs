@@ -138,9 +138,26 @@ impl Register {
     pub fn read(&mut self, crew: Crew, bearing: Bearing) -> Result<Reading, Refusal> {
         let mut out = [0; 8];
         Refusal::check(raw::read(&mut self.book, crew.0, bearing.0, &mut out))?;
-        let [written, value, diameter, width, a, b, c, d] = out;
-        let card = Card::from_bits(diameter, width);
-        Ok(if written == 1 { Reading::Written { value, card, vector: [a, b, c, d] } } else { Reading::Unwritten })
+        Ok(reading(out))
+    }
+
+    /// A crew reads a list of 1 to 8 bearings at its home, at one moment: no answer rests on a write to another bearing of the
+    /// list that is above that bearing's own answer. The answers come in list order.
+    ///
+    /// ```
+    /// # use depot_register::{Bearing, Card, Counts, Crew, Depot, Refusal, Register};
+    /// # let counts = Counts { depots: 1, shelves: 2, bearings: 2, crews: 1 };
+    /// # let mut register = Register::setup(counts, &[Depot(0)]).unwrap();
+    /// register.write(Crew(0), Bearing(1), 20, Card { diameter: 52.0, width: 15.0 }).unwrap();
+    /// let page = register.list(Crew(0), &[Bearing(0), Bearing(1)]).unwrap();
+    /// assert_eq!(page.iter().map(|answer| answer.value()).collect::<Vec<_>>(), [None, Some(20)]);
+    /// assert_eq!(register.list(Crew(0), &[]), Err(Refusal::BadList));
+    /// ```
+    pub fn list(&mut self, crew: Crew, bearings: &[Bearing]) -> Result<Vec<Reading>, Refusal> {
+        let mut out = [0; 64];
+        let numbers: Vec<u32> = bearings.iter().map(|bearing| bearing.0).collect();
+        Refusal::check(raw::list(&mut self.book, crew.0, &numbers, &mut out))?;
+        Ok(out.chunks_exact(8).take(bearings.len()).map(|words| reading(words.try_into().unwrap())).collect())
     }
 
     /// A crew writes a bearing's value, a day from 0 to [`LAST_DAY`](calendar::LAST_DAY), and its card, at its home.
@@ -258,5 +275,15 @@ pub fn greater<'a>(a: &'a [u32; RECORD], b: &'a [u32; RECORD], depots: u32) -> &
         b
     } else {
         a
+    }
+}
+
+/// What the eight words of an answer tell.
+fn reading([written, value, diameter, width, a, b, c, d]: [u32; 8]) -> Reading {
+    let card = Card::from_bits(diameter, width);
+    if written == 1 {
+        Reading::Written { value, card, vector: [a, b, c, d] }
+    } else {
+        Reading::Unwritten
     }
 }

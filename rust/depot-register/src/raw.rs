@@ -36,6 +36,15 @@ mod library {
         pub fn depot_refresh(book: *mut u32, words: usize, depot: u32, shelf: u32) -> u32;
         pub fn depot_who_has(book: *const u32, words: usize, depot: u32, bearing: u32, out: *mut u32, out_count: usize) -> u32;
         pub fn depot_move(book: *mut u32, words: usize, crew: u32, depot: u32) -> u32;
+        pub fn depot_list(
+            book: *mut u32,
+            words: usize,
+            crew: u32,
+            bearings: *const u32,
+            count: usize,
+            out: *mut u32,
+            out_count: usize,
+        ) -> u32;
         pub fn depot_is_fit(book: *const u32, words: usize) -> u32;
         pub fn depot_greater(a: *const u32, a_words: usize, b: *const u32, b_words: usize, depots: u32) -> u32;
         pub fn depot_line(book: *mut u32, words: usize, line: *const u8, length: usize, out: *mut u8, out_length: usize)
@@ -82,6 +91,20 @@ mod library {
 
 pub fn setup(book: &mut [u32], depots: u32, shelves: u32, bearings: u32, crews: u32, homes: &[u32]) -> u32 {
     unsafe { library::depot_setup(book.as_mut_ptr(), book.len(), depots, shelves, bearings, crews, homes.as_ptr(), homes.len()) }
+}
+
+pub fn list(book: &mut [u32], crew: u32, bearings: &[u32], out: &mut [u32]) -> u32 {
+    unsafe {
+        library::depot_list(
+            book.as_mut_ptr(),
+            book.len(),
+            crew,
+            bearings.as_ptr(),
+            bearings.len(),
+            out.as_mut_ptr(),
+            out.len(),
+        )
+    }
 }
 
 pub fn read(book: &mut [u32], crew: u32, bearing: u32, out: &mut [u32]) -> u32 {
