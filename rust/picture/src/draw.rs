@@ -19,18 +19,20 @@ pub struct Shape {
     words: i32,
     /// Half the width of a mark.
     mark: i32,
+    margin: i32,
 }
 
 /// For a desk.
-pub const DESK: Shape = Shape { id: "d", lane: 46, between: 14, number: 52, words: 372, mark: 13 };
+pub const DESK: Shape = Shape { id: "d", lane: 46, between: 14, number: 52, words: 372, mark: 13, margin: 10 };
 /// For a telephone.
-pub const PHONE: Shape = Shape { id: "n", lane: 31, between: 8, number: 42, words: 226, mark: 12 };
+pub const PHONE: Shape = Shape { id: "n", lane: 31, between: 6, number: 38, words: 200, mark: 12, margin: 4 };
 
 /// After so many rows the names of the depots stand again.
 const AGAIN: usize = 40;
 /// An arrow that would be longer is drawn as its two ends.
 const LONG: i32 = 1_100;
-const MARGIN: i32 = 10;
+/// The height of a row of small weight.
+const SHORT: i32 = 28;
 
 /// Where the lanes of a register are.
 #[derive(Clone, Copy)]
@@ -45,7 +47,7 @@ impl Lanes {
     fn new(shape: &Shape, counts: Counts) -> Lanes {
         // A depot's name has room above its shelves.
         let lane = shape.lane.max(72 / counts.shelves as i32);
-        Lanes { counts, left: MARGIN + shape.number, lane, between: shape.between }
+        Lanes { counts, left: shape.margin + shape.number, lane, between: shape.between }
     }
 
     fn depot_width(&self) -> i32 {
@@ -120,7 +122,7 @@ fn class(tone: Tone) -> &'static str {
 fn wrap(text: &str, tone: Tone, width: i32) -> Vec<String> {
     let tenths = match tone {
         Tone::Main => 90,
-        Tone::Refused | Tone::Hidden | Tone::Shown => 95,
+        Tone::Refused | Tone::Hidden | Tone::Shown => 102,
         Tone::Thin => 80,
         Tone::Desk => 86,
     };
@@ -154,6 +156,12 @@ fn broken(texts: &[(Tone, String)], width: i32) -> Vec<(Tone, String)> {
     texts.iter().flat_map(|(tone, text)| wrap(text, *tone, width).into_iter().map(|line| (*tone, line))).collect()
 }
 
+/// Whether the words and the desk's line stand side by side: those of a line of small weight, if they have the room.
+fn in_one(texts: &[(Tone, String)], shape: &Shape) -> bool {
+    let length = |text: &str| text.chars().count() as i32;
+    matches!(texts, [(Tone::Thin, words), (Tone::Desk, desk)] if length(words) * 8 + length(desk) * 86 / 10 < shape.words)
+}
+
 fn height_of(texts: &[(Tone, String)]) -> i32 {
     texts.iter().map(|(tone, _)| line_height(*tone)).sum()
 }
@@ -161,9 +169,7 @@ fn height_of(texts: &[(Tone, String)]) -> i32 {
 impl<'a> Plan<'a> {
     fn new(run: &'a Run, asked: &'a Asked, shape: &'a Shape, top: i32) -> Plan<'a> {
         let shown: Vec<bool> = (0..run.lines.len()).map(|at| asked.filter.shows(run, at)).collect();
-        let rights = run.sections.iter().map(|section| Lanes::new(shape, section.counts).right());
-        let words = rights.max().unwrap_or(MARGIN + shape.number) + 12;
-        let width = words + shape.words + MARGIN;
+        let (words, width) = (words_edge(run, shape), width(run, shape));
         let (marks, sections) = (vec![(top, false); run.lines.len()], vec![None; run.sections.len()]);
         let mut plan = Plan { run, asked, shape, rows: Vec::new(), marks, sections, words, width, bottom: top };
         let mut since = 0;
@@ -210,10 +216,10 @@ impl<'a> Plan<'a> {
     fn line(&mut self, at: usize) {
         let line = &self.run.lines[at];
         let texts = broken(&words::told(self.run, line), self.shape.words);
-        let (pad, levels) = if words::thin(self.run, line) { (5, 0) } else { (16, i32::from(!line.showed.is_empty())) };
-        let height = if words::thin(self.run, line) && texts.len() <= 2 { 28 } else { height_of(&texts) + pad };
-        self.marks[at] = (self.bottom + if height == 28 { 14 } else { 21 + 30 * levels }, true);
-        self.add(Row::Line(at), height.max(28 + levels * 44));
+        let levels = i32::from(!line.showed.is_empty());
+        let height = if in_one(&texts, self.shape) { SHORT } else { (height_of(&texts) + 16).max(42 + levels * 30) };
+        self.marks[at] = (self.bottom + if height == SHORT { 14 } else { 21 + 30 * levels }, true);
+        self.add(Row::Line(at), height);
     }
 
     /// The height of what a line shows, which comes before its mark.
@@ -271,10 +277,20 @@ fn arrow(from: (i32, i32), to: (i32, i32), ends: (i32, i32), class: &str, head: 
     format!("{}<polygon points=\"{}\" class=\"{}\"/>\n", shaft, points, point_class)
 }
 
+/// The left edge of the words.
+fn words_edge(run: &Run, shape: &Shape) -> i32 {
+    let rights = run.sections.iter().map(|section| Lanes::new(shape, section.counts).right());
+    rights.max().unwrap_or(shape.margin + shape.number + 24) + 12
+}
+
+/// The width of a picture.
+pub fn width(run: &Run, shape: &Shape) -> i32 {
+    words_edge(run, shape) + shape.words + shape.margin
+}
+
 /// The whole picture. As a file of its own it names itself to whoever cannot see it.
 pub fn svg(run: &Run, asked: &Asked, shape: &Shape, alone: bool) -> String {
-    let counts = run.sections.iter().map(|section| Lanes::new(shape, section.counts).right()).max();
-    let width = counts.unwrap_or(MARGIN + shape.number) + 12 + shape.words + MARGIN;
+    let width = width(run, shape);
     let mut layers = Layers::default();
     let top = opening(&mut layers, asked, shape, width);
     let plan = Plan::new(run, asked, shape, top);
@@ -285,7 +301,7 @@ pub fn svg(run: &Run, asked: &Asked, shape: &Shape, alone: bool) -> String {
         row(&mut layers, &plan, placed);
     }
     messages(&mut layers, &plan);
-    let height = ending(&mut layers, &plan) + MARGIN;
+    let height = ending(&mut layers, &plan) + 10;
     let title = escape(&asked.title);
     let names = if alone {
         let about = format!("{} lines of the desk, from top to bottom, and what each did", run.lines.len());
@@ -314,15 +330,15 @@ pub fn svg(run: &Run, asked: &Asked, shape: &Shape, alone: bool) -> String {
 
 /// The title and what the marks mean. Says where the rows begin.
 fn opening(layers: &mut Layers, asked: &Asked, shape: &Shape, width: i32) -> i32 {
-    let mut y = MARGIN + 24;
-    let whole = width - 2 * MARGIN;
+    let mut y = 34;
+    let whole = width - 2 * shape.margin;
     for part in wrap(&asked.title, Tone::Main, whole * 8 / 10) {
-        layers.text += &text(MARGIN + 4, y, "big", &part);
+        layers.text += &text(shape.margin + 4, y, "big", &part);
         y += 28;
     }
     let how = "Time runs downwards. A column is a depot, a line in it one of its shelves. The number in a mark is the bearing.";
     for part in wrap(how, Tone::Thin, whole) {
-        layers.text += &text(MARGIN + 4, y, "thin", &part);
+        layers.text += &text(shape.margin + 4, y, "thin", &part);
         y += 20;
     }
     y += 14;
@@ -330,7 +346,7 @@ fn opening(layers: &mut Layers, asked: &Asked, shape: &Shape, width: i32) -> i32
     let column = if two { whole / 2 } else { whole };
     for (i, (draw, meaning)) in LEGEND.iter().enumerate() {
         let (x, down) = if two { (i as i32 % 2 * column, i as i32 / 2) } else { (0, i as i32) };
-        let (x, y) = (MARGIN + 4 + x, y + 30 * down);
+        let (x, y) = (shape.margin + 4 + x, y + 30 * down);
         legend_mark(layers, shape, *draw, x + 22, y);
         layers.text += &text(x + 54, y + 5, "thin", meaning);
     }
@@ -352,12 +368,12 @@ enum Sign {
 
 const LEGEND: [(Sign, &str); 8] = [
     (Sign::Write, "a crew writes"),
-    (Sign::Copy, "a copy on its way, and taken"),
-    (Sign::Hidden, "taken, but hidden"),
+    (Sign::Copy, "its copy, on its way"),
+    (Sign::Hidden, "taken there, but hidden"),
     (Sign::Shown, "shown: readers find it"),
     (Sign::Read, "a crew reads"),
     (Sign::Refused, "refused: nothing changed"),
-    (Sign::Beat, "a clock ticks, and tells"),
+    (Sign::Beat, "a heartbeat: a clock's tick"),
     (Sign::Refresh, "a shelf is refreshed"),
 ];
 
@@ -420,11 +436,11 @@ fn row(layers: &mut Layers, plan: &Plan, placed: &Placed) {
         Row::Gap(start, end) => {
             let lines = if end - start == 1 { format!("line {}", end) } else { format!("lines {} to {}", start + 1, end) };
             let y = placed.top + 22;
-            layers.ground += &line(point((MARGIN, placed.top)), point((plan.width - MARGIN, placed.top)), "rule");
+            layers.ground += &line(point((plan.shape.margin, placed.top)), point((plan.width - plan.shape.margin, placed.top)), "rule");
             layers.text += &text(plan.words, y, "thin", &format!("… {} not shown", lines));
         }
         Row::Line(at) => {
-            layers.ground += &line(point((MARGIN, placed.top)), point((plan.width - MARGIN, placed.top)), "rule");
+            layers.ground += &line(point((plan.shape.margin, placed.top)), point((plan.width - plan.shape.margin, placed.top)), "rule");
             words_of(layers, plan, at, placed);
             mark_of(layers, plan, at);
         }
@@ -437,7 +453,7 @@ fn head(layers: &mut Layers, plan: &Plan, section: usize, top: i32) {
     for depot in (0..lanes.counts.depots).map(Depot) {
         let (x, width) = (lanes.depot(depot), lanes.depot_width());
         layers.ground += &format!("<rect x=\"{}\" y=\"{}\" width=\"{}\" height=\"50\" class=\"band\"/>\n", x, top, width);
-        layers.text += &text(x + width / 2, top + 21, "head mid", &depot.to_string());
+        layers.text += &text(x + width / 2, top + 21, if width < 72 { "head thin-head mid" } else { "head mid" }, &depot.to_string());
         for shelf in (0..lanes.counts.shelves).map(Shelf) {
             layers.text += &text(lanes.shelf(depot, shelf), top + 43, "thin mid", &shelf.0.to_string());
         }
@@ -452,17 +468,14 @@ fn words_of(layers: &mut Layers, plan: &Plan, at: usize, placed: &Placed) {
     let whole: Vec<&str> = texts.iter().map(|(_, text)| &text[..]).collect();
     let id = format!("{}{}", plan.shape.id, at + 1);
     layers.text += &format!("<g id=\"{}\" class=\"row\">\n<title>{}</title>\n", id, escape(&whole.join(". ")));
-    let short = placed.height == 28;
+    let short = placed.height == SHORT;
     let first = placed.top + if short { 19 } else { 27 };
-    layers.text += &text(MARGIN + plan.shape.number - 8, first, "number", &(at + 1).to_string());
+    layers.text += &text(plan.shape.margin + plan.shape.number - 8, first, "number", &(at + 1).to_string());
     let mut y = first;
     let texts = broken(&texts, plan.shape.words);
     if let ([(tone, words), (_, desk)], true) = (&texts[..], short) {
         layers.text += &text(plan.words, y, class(*tone), words);
-        let room = plan.shape.words - words.chars().count() as i32 * 8 - desk.chars().count() as i32 * 86 / 10;
-        if room > 0 {
-            layers.text += &text(plan.width - MARGIN, y, "desk number", desk);
-        }
+        layers.text += &text(plan.width - plan.shape.margin, y, "desk number", desk);
     } else {
         for (tone, words) in &texts {
             layers.text += &text(plan.words, y, class(*tone), words);
@@ -478,7 +491,7 @@ fn mark_of(layers: &mut Layers, plan: &Plan, at: usize) {
     let (y, r) = (plan.marks[at].0, plan.shape.mark);
     let x = match (asked.place, asked.section) {
         (Some((depot, shelf)), Some(section)) => plan.lanes(section).shelf(depot, shelf),
-        _ => MARGIN + plan.shape.number + 12,
+        _ => plan.shape.margin + plan.shape.number + 12,
     };
     let marks = &mut layers.marks;
     if asked.refused.is_some() || asked.event == Event::Bad {
@@ -612,12 +625,12 @@ fn ending(layers: &mut Layers, plan: &Plan) -> i32 {
     let section = plan.run.sections.len().checked_sub(1);
     let rows: Vec<_> = newest.collect();
     if let (Some(section), false) = (section, rows.is_empty()) {
-        layers.text += &text(MARGIN + 4, y + 34, "head", "At the end: the newest of each bearing, and who has it");
+        layers.text += &text(plan.shape.margin + 4, y + 34, "head", "At the end: the newest of each bearing, and who has it");
         y += 44;
         let lanes = plan.lanes(section);
         for newest in rows {
             let texts = broken(&[(Tone::Main, words::held(plan.run, newest))], plan.shape.words);
-            layers.ground += &line(point((MARGIN, y)), point((plan.width - MARGIN, y)), "rule");
+            layers.ground += &line(point((plan.shape.margin, y)), point((plan.width - plan.shape.margin, y)), "rule");
             for (depot, &has) in (0..).map(Depot).zip(&newest.has) {
                 let x = lanes.depot(depot) + lanes.depot_width() / 2;
                 let (class, inside) = if has { ("green has", "green-in") } else { ("lacks", "") };
@@ -630,8 +643,8 @@ fn ending(layers: &mut Layers, plan: &Plan) -> i32 {
         }
     }
     if let Some(word) = &plan.run.word {
-        for part in wrap(&format!("The auditor: {}", word), Tone::Main, plan.width - 2 * MARGIN) {
-            layers.text += &text(MARGIN + 4, y + 30, "head", &part);
+        for part in wrap(&format!("The auditor: {}", word), Tone::Main, plan.width - 2 * plan.shape.margin) {
+            layers.text += &text(plan.shape.margin + 4, y + 30, "head", &part);
             y += 26;
         }
         y += 10;

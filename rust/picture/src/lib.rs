@@ -8,7 +8,7 @@
 //!
 //! let run = Run::of(b"S 2 1 4 2 0 1\nW 0 2 9131 1112539136 1097859072\nT 1 0 0\nF 1 0\nR 1 2\n", &mut |_| ());
 //! let page = picture::picture(&run, &Asked::default());
-//! assert!(page.contains("Crew 1 reads bearing 2: 31 Dec 2024; 52 × 15 mm, 3.9 g"));
+//! assert!(page.contains("Crew 1 reads bearing 2: 31\u{a0}Dec\u{a0}2024"));
 //! assert_eq!(picture::xml::check(&page), Ok(()));
 //! ```
 

@@ -1,7 +1,7 @@
 //! The whole page around a picture.
 
 use crate::arguments::Asked;
-use crate::draw::{svg, DESK, PHONE};
+use crate::draw::{svg, width, DESK, PHONE};
 use crate::run::Run;
 use crate::xml::escape;
 
@@ -20,7 +20,8 @@ pub fn page(run: &Run, asked: &Asked) -> String {
     body += &svg(run, asked, &DESK, false);
     body += "</div>\n";
     if narrow {
-        body += "<div class=\"narrow\">\n";
+        // It fills the width, but text is never set smaller than at 85 of 100.
+        body += &format!("<div class=\"narrow\" style=\"min-width:{}px\">\n", width(run, &PHONE) * 85 / 100);
         body += &svg(run, asked, &PHONE, false);
         body += "</div>\n";
     }
@@ -53,5 +54,5 @@ svg{display:block;margin:0 auto}
 /// Of the two pictures the one that is for the width at hand.
 const TWO: &str = "\
 .narrow{display:none}
-@media (max-width:640px){.wide{display:none}.narrow{display:block}}
+@media (max-width:640px){body{padding:0}.wide{display:none}.narrow{display:block}.narrow svg{width:100%;height:auto}}
 ";

@@ -3,25 +3,22 @@
 
 /// The style sheet of a picture. `id` is that of its root, so that two pictures in one page do not meet.
 pub fn sheet(id: &str) -> String {
-    let mut sheet = String::new();
-    for (selector, rule) in RULES {
-        sheet += &format!("#{} {}{{{}}}\n", id, selector, rule);
-    }
-    for (selector, rule) in COLOURS.iter().map(|(selector, light, _)| (selector, light)) {
-        sheet += &format!("#{} {}{{{}}}\n", id, selector, rule);
-    }
-    sheet += "@media (prefers-color-scheme:dark){\n";
-    for (selector, rule) in COLOURS.iter().map(|(selector, _, dark)| (selector, dark)) {
-        sheet += &format!("#{} {}{{{}}}\n", id, selector, rule);
-    }
-    sheet + "}\n"
+    let rule = |(selectors, rule): (&str, &str)| {
+        let selectors: Vec<String> = selectors.split(',').map(|selector| format!("#{} {}", id, selector)).collect();
+        format!("{}{{{}}}\n", selectors.join(","), rule)
+    };
+    let always: String = RULES.iter().copied().map(rule).collect();
+    let light: String = COLOURS.iter().map(|&(selectors, light, _)| rule((selectors, light))).collect();
+    let dark: String = COLOURS.iter().map(|&(selectors, _, dark)| rule((selectors, dark))).collect();
+    format!("{}{}@media (prefers-color-scheme:dark){{\n{}}}\n", always, light, dark)
 }
 
-const RULES: [(&str, &str); 22] = [
+const RULES: [(&str, &str); 23] = [
     ("text", "font:17px system-ui,'Segoe UI',Roboto,Helvetica,Arial,'DejaVu Sans',sans-serif"),
     (".big", "font-size:21px;font-weight:700"),
     (".head", "font-weight:700"),
     (".thin", "font-size:15px"),
+    (".thin-head", "font-size:15px"),
     (".desk,.number", "font:14px ui-monospace,Menlo,Consolas,'DejaVu Sans Mono',monospace"),
     (".refused,.hidden,.shown", "font-weight:600"),
     (".number", "text-anchor:end"),

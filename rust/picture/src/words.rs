@@ -24,7 +24,7 @@ const MONTHS: [&str; 12] = ["Jan", "Feb", "Mar", "Apr", "May", "Jun", "Jul", "Au
 /// A value as the date that it is, by the register's calendar.
 pub fn date(value: u32) -> String {
     match date_of(value) {
-        Ok(date) => format!("{} {} {}", date.day, MONTHS[(date.month - 1) as usize], date.year),
+        Ok(date) => format!("{}\u{a0}{}\u{a0}{}", date.day, MONTHS[(date.month - 1) as usize], date.year),
         Err(_) => format!("day {}", value),
     }
 }
@@ -42,8 +42,8 @@ fn measure(value: f64) -> String {
 pub fn card(card: Card) -> String {
     let [diameter, width] = [card.diameter, card.width].map(|length| measure(f64::from(length)));
     match card.grams() {
-        Ok(grams) => format!("{} × {} mm, {} g", diameter, width, measure(grams)),
-        Err(_) => format!("{} × {} mm", diameter, width),
+        Ok(grams) => format!("{}\u{a0}×\u{a0}{}\u{a0}mm, {}\u{a0}g", diameter, width, measure(grams)),
+        Err(_) => format!("{}\u{a0}×\u{a0}{}\u{a0}mm", diameter, width),
     }
 }
 
@@ -93,11 +93,11 @@ pub fn told(run: &Run, line: &Line) -> Vec<(Tone, String)> {
         _ => vec![(tone, doing(run, line))],
     };
     for &id in &line.hidden {
-        texts.push((Tone::Hidden, format!("{} is here, but hidden", from_line(run, id))));
+        texts.push((Tone::Hidden, format!("Hidden here: {}", from_line(run, id))));
     }
     for &id in &line.showed {
         let stays = if run.messages[id].kept { "" } else { ", but a greater one is stored" };
-        texts.push((Tone::Shown, format!("Shown: {}{}", from_line(run, id), stays)));
+        texts.push((Tone::Shown, format!("Now shown: {}{}", from_line(run, id), stays)));
     }
     if let Some(number) = line.refused {
         texts.push((Tone::Refused, format!("Refused: {}", refusal(number))));
@@ -111,8 +111,8 @@ pub fn told(run: &Run, line: &Line) -> Vec<(Tone, String)> {
 fn from_line(run: &Run, id: usize) -> String {
     let message = &run.messages[id];
     match message.copy {
-        Some((bearing, value)) => format!("{}, {}, of line {}", bearing, date(value), message.sent + 1),
-        None => format!("the tick of line {}", message.sent + 1),
+        Some((bearing, _)) => format!("{} of line\u{a0}{}", bearing, message.sent + 1),
+        None => format!("the tick of line\u{a0}{}", message.sent + 1),
     }
 }
 
@@ -138,10 +138,11 @@ fn doing(run: &Run, line: &Line) -> String {
             let stays = if *superseded { "; superseded: a greater one stays" } else { "" };
             format!("Crew {} {} {}: {}; {}{}", crew.0, verb, bearing, date(*value), card(*size), stays)
         }
+        Event::Tick { depot, shelf } if !done => format!("Depot {}, {} would tick", depot.0, shelf),
         Event::Tick { depot, shelf } => format!("Depot {}, {} ticks", depot.0, shelf),
         Event::Take { depot, shelf, from } => match line.took {
-            Some(id) => format!("Depot {}, {} takes {}", depot.0, shelf, from_line(run, id)),
-            None => format!("Depot {}, {} takes from {}", depot.0, shelf, from),
+            Some(id) => format!("Depot {} takes {}", depot.0, from_line(run, id)),
+            None => format!("Depot {}, {} would take from {}", depot.0, shelf, from),
         },
         Event::Refresh { depot, shelf } => format!("Depot {}, {} is refreshed", depot.0, shelf),
         Event::Bad => String::new(),
