@@ -146,6 +146,27 @@ uint32_t depot_date_of(uint32_t day, uint32_t *out, size_t out_count);
 uint32_t depot_next_date(uint32_t year, uint32_t month, uint32_t day, uint32_t step, uint32_t n, uint32_t *out,
                          size_t out_count);
 
+/* The auditor: whether a history of reads and writes is causal. It needs no book; docs/AUDIT.md says what is looked for. A history is
+ * DEPOT_ENTRY_WORDS words an entry, each crew's entries in its own order: the kind, 0 a write and 1 a read; the crew; then a version
+ * record with four entries, 0 past the depots. Any words get an answer, in this order: too many, bad length, refused, circle, low,
+ * causal. It is one number: DEPOT_AUDIT_ANSWER of it is the answer, and DEPOT_AUDIT_ENTRY of it the entry that is named, counted
+ * from 0, or 0 where none is. */
+enum depot_audit_answer {
+    DEPOT_CAUSAL = 0,           /* nothing is wrong */
+    DEPOT_TOO_MANY_ENTRIES = 1, /* more than DEPOT_MOST_ENTRIES entries: nothing else was looked at */
+    DEPOT_BAD_LENGTH = 2,       /* the words are no whole number of entries */
+    DEPOT_REFUSED_ENTRY = 3,    /* the lowest entry that no history has */
+    DEPOT_CIRCLE = 4,           /* the first entry that rests on itself */
+    DEPOT_LOW_READ = 5          /* the first read that is lower than a write to its bearing in its past */
+};
+
+#define DEPOT_ENTRY_WORDS 11   /* words of an entry */
+#define DEPOT_MOST_ENTRIES 256 /* the most entries of a history */
+#define DEPOT_AUDIT_ANSWER(number) ((number) % 256u)
+#define DEPOT_AUDIT_ENTRY(number) ((number) / 256u)
+
+uint32_t depot_audit(const uint32_t *history, size_t words);
+
 #ifdef __cplusplus
 }
 #endif

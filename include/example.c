@@ -108,6 +108,10 @@ int main(void) {
     uint8_t answer[DEPOT_ANSWER_BYTES];
     uint32_t out[DEPOT_READ_WORDS]; /* the longest of the answers below */
     size_t length;
+    const uint32_t history[2 * DEPOT_ENTRY_WORDS] = {
+        0, 0, 0, 9200, 1, 1, 0, 1, 0, 0, 0, /* a write: crew 0, bearing 0, day 9200, a card, origin 0, the vector */
+        1, 0, 0, 0, 0, 0, 0, 0, 0, 0, 0     /* a read: crew 0, bearing 0, unwritten */
+    };
 
     expect(depot_setup(book, DEPOT_BOOK_WORDS, 2, SHELVES, BEARINGS, 2, homes, 2), DEPOT_DONE, "setup");
     expect(depot_is_fit(book, DEPOT_BOOK_WORDS), 1, "fit");
@@ -142,6 +146,11 @@ int main(void) {
     expect(depot_is_date(2023, 2, 29), 0, "29 February 2023");
     expect(depot_day_number(2023, 2, 29, out, DEPOT_NUMBER_WORDS), DEPOT_NO_SUCH_DATE, "its day number");
     expect(depot_date_of(DEPOT_LAST_DAY + 1, out, DEPOT_DATE_WORDS), DEPOT_TOO_LATE, "1 January 2400");
+
+    puts("The auditor: crew 0 writes a date and is then told that there is none.");
+    expect(depot_audit(history, DEPOT_ENTRY_WORDS), DEPOT_CAUSAL, "the write alone");
+    expect(DEPOT_AUDIT_ANSWER(depot_audit(history, 2 * DEPOT_ENTRY_WORDS)), DEPOT_LOW_READ, "then a read of nothing");
+    expect(DEPOT_AUDIT_ENTRY(depot_audit(history, 2 * DEPOT_ENTRY_WORDS)), 1, "which is entry 1");
 
     puts("What is wrong is refused by number, and changes nothing.");
     expect(depot_tick(book, DEPOT_BOOK_WORDS, 7, 0), DEPOT_BAD_DEPOT, "bad depot");

@@ -312,23 +312,30 @@ fn is_moved(book: &mut [u32], crew: u32, depot: u32, number: u32) -> bool {
     }
 }
 
-// (o) a crew changes depot: not before both shelves there have seen what it wrote; there it reads that and writes on it, and back it goes when depot 0 has seen the second write.
-fn case_o(book: &mut [u32], out: &mut [u8]) -> bool
-    requires { ⌜ answerRoom ≤ length (now out) ⌝ }
-{
-    let written = runs(
-        book,
-        out,
-        b"S 2 2 4 2 0 1\n0\nW 0 0 20 1065353216 1065353216\n0 1 C\n",
-    );
+// The numbers of a move: depot 1 has not seen what crew 0 wrote, its home is always open, and there is no crew 2 and no depot 2.
+fn is_barred(book: &mut [u32]) -> bool {
     let unseen = is_moved(book, 0, 1, 12);
     let present = is_moved(book, 0, 0, 0);
     let crew = is_moved(book, 2, 2, 5);
     let depot = is_moved(book, 0, 2, 2);
+    unseen && present && crew && depot
+}
+
+// It is let in when both shelves there have seen it, and not when one has.
+fn moves_there(book: &mut [u32], out: &mut [u8]) -> bool
+    requires { ⌜ answerRoom ≤ length (now out) ⌝ }
+{
     let taken = runs(book, out, b"T 1 0 0\n0\n");
     let behind = is_moved(book, 0, 1, 12);
     let seen = runs(book, out, b"K 0 1\n0\nT 1 1 0\n0\n");
     let there = is_moved(book, 0, 1, 0);
+    taken && behind && seen && there
+}
+
+// There it reads what it wrote and writes on it; back it goes when depot 0 has seen that.
+fn moves_back(book: &mut [u32], out: &mut [u8]) -> bool
+    requires { ⌜ answerRoom ≤ length (now out) ⌝ }
+{
     let read = runs(
         book,
         out,
@@ -338,8 +345,22 @@ fn case_o(book: &mut [u32], out: &mut [u8]) -> bool
     let sent = runs(book, out, b"K 1 1\n0\nT 0 0 1\n0\nT 0 1 1\n0\n");
     let back = is_moved(book, 0, 0, 0);
     let ended = runs(book, out, b"R 0 0\n0 30 1065353216 1065353216 1 1\n");
-    let asked = unseen && present && crew && depot && behind && there && early && back;
-    written && taken && seen && read && sent && ended && asked
+    read && early && sent && back && ended
+}
+
+// (o) a crew changes depot, there and back.
+fn case_o(book: &mut [u32], out: &mut [u8]) -> bool
+    requires { ⌜ answerRoom ≤ length (now out) ⌝ }
+{
+    let written = runs(
+        book,
+        out,
+        b"S 2 2 4 2 0 1\n0\nW 0 0 20 1065353216 1065353216\n0 1 C\n",
+    );
+    let barred = is_barred(book);
+    let there = moves_there(book, out);
+    let back = moves_back(book, out);
+    written && barred && there && back
 }
 
 // (?) what must not pass: a wrong number, an answer that is cut, one that goes on, and a wrong word. Each is told as different.
@@ -393,6 +414,12 @@ fn from_requests(book: &mut [u32], out: &mut [u8])
     tell(b'k', case_k(book, out));
     tell(b'l', case_l(book, out));
     tell(b'm', case_m(book, out));
+}
+
+// Those of calls that are no lines.
+fn from_calls(book: &mut [u32], out: &mut [u8])
+    requires { ⌜ answerRoom ≤ length (now out) ⌝ }
+{
     tell(b'n', case_n(book, out));
     tell(b'o', case_o(book, out));
 }
@@ -403,5 +430,6 @@ fn main() {
     from_listing(&mut book, &mut out);
     from_setup(&mut book, &mut out);
     from_requests(&mut book, &mut out);
+    from_calls(&mut book, &mut out);
     tell(b'?', wrong_answers(&mut book, &mut out));
 }

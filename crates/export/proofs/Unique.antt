@@ -2,6 +2,7 @@
 -- Assumes nothing.
 use mathlib.Core.Path.{_∙_, sym}
 use Rattle.loops.specs.Settled.{Settled}
+use Rattle.judged.proofs.NumberLaws.{audited-unique}
 use Rattle.events.proofs.answer.answer_line.Kinds as answer-line-kinds
 use Rattle.events.proofs.answer.answer_line.Reads as answer_line
 use Rattle.export.proofs.depot_setup.Kinds as setup-kinds
@@ -26,6 +27,8 @@ use Rattle.export.proofs.depot_greater.Kinds as greater-kinds
 use Rattle.export.proofs.depot_greater.Reads as depot_greater
 use Rattle.export.proofs.depot_line.Kinds as line-kinds
 use Rattle.export.proofs.depot_line.Reads as depot_line
+use Rattle.export.proofs.audit.depot_audit.Kinds as audit-kinds
+use Rattle.export.proofs.audit.depot_audit.Reads as depot_audit
 use Rattle.export.proofs.days.depot_is_date.Kinds as is-date-kinds
 use Rattle.export.proofs.days.depot_is_date.Reads as depot_is_date
 use Rattle.export.proofs.days.depot_day_number.Kinds as day-number-kinds
@@ -86,3 +89,7 @@ date-of-unique κs args one other end end′ p q = p .0 ∙ sym (q .0)
 
 pub next-date-unique : Settled 1 next-date-kinds.ps next-date-kinds.r depot_next_date.Learnt
 next-date-unique κs args one other end end′ p q = p .0 ∙ sym (q .0)
+
+-- the auditor
+pub audit-unique : Settled 1 audit-kinds.ps audit-kinds.r depot_audit.Learnt
+audit-unique κs args one other end end′ p q = audited-unique p q

@@ -16,7 +16,7 @@ ghost use Rattle.stream.specs.Stream.{zeroBook, Holder, lineIn, linePiece, book
 const LINE_ROOM: usize = 122;
 
 // Room for an answer to each byte of a piece of the input, which has at most 4,096, and for one at its end.
-const OUT_ROOM: usize = 262208;
+const OUT_ROOM: usize = 327760;
 
 // Writes the answers. Where they cannot be written, a line on standard error says so.
 fn write_answers(said: &[u8]) -> bool {

@@ -2,6 +2,7 @@
 //! tables of docs/SPEED.md. Each figure is the median of several runs. The two sides take turns, and so do the rows of the
 //! tables, so that what else the computer does in a while falls on all of them.
 
+mod audits;
 mod events;
 mod timed;
 
@@ -82,6 +83,12 @@ fn main() {
         let (library, straight) = timed.medians(Kind::Mixed);
         println!("| {} | {:.0} | {:.0} | {:.2} |", name, 1e9 / library, 1e9 / straight, library / straight);
     }
+
+    println!("\nA history of 256 entries audited, median of {} runs, microseconds:\n", RUNS);
+    println!("| library | straight | library / straight |");
+    println!("|---|---|---|");
+    let (library, straight) = audits::medians(RUNS);
+    println!("| {:.0} | {:.0} | {:.2} |", library, straight, library / straight);
 }
 
 fn cell((library, straight): (f64, f64)) -> String {

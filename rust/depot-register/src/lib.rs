@@ -46,6 +46,7 @@
 //! ```
 
 mod answers;
+pub mod audit;
 pub mod calendar;
 mod card;
 mod numbers;

@@ -40,6 +40,7 @@ mod library {
         pub fn depot_greater(a: *const u32, a_words: usize, b: *const u32, b_words: usize, depots: u32) -> u32;
         pub fn depot_line(book: *mut u32, words: usize, line: *const u8, length: usize, out: *mut u8, out_length: usize)
             -> usize;
+        pub fn depot_audit(history: *const u32, words: usize) -> u32;
         pub fn depot_is_date(year: u32, month: u32, day: u32) -> u32;
         pub fn depot_day_number(year: u32, month: u32, day: u32, out: *mut u32, out_count: usize) -> u32;
         pub fn depot_date_of(day: u32, out: *mut u32, out_count: usize) -> u32;
@@ -97,6 +98,10 @@ pub fn greater(a: &[u32], b: &[u32], depots: u32) -> u32 {
 
 pub fn line(book: &mut [u32], line: &[u8], out: &mut [u8]) -> usize {
     unsafe { library::depot_line(book.as_mut_ptr(), book.len(), line.as_ptr(), line.len(), out.as_mut_ptr(), out.len()) }
+}
+
+pub fn audit(history: &[u32]) -> u32 {
+    unsafe { library::depot_audit(history.as_ptr(), history.len()) }
 }
 
 pub fn is_date(year: u32, month: u32, day: u32) -> u32 {

@@ -124,7 +124,11 @@ fn event(random: &mut Random, n: Counts, kind: usize) -> Event {
     let (depot, shelf, from) = (below(random, n.depots), below(random, n.shelves), below(random, n.depots));
     match kind {
         0 => Event::Read { crew, bearing },
-        1 => Event::Write { crew, bearing, value: below(random, 100), card: values::card(random) },
+        1 => {
+            let value = below(random, 100);
+            let length = |by: u32| values::LENGTHS[by as usize % values::LENGTHS.len()];
+            Event::Write { crew, bearing, value, card: [length(value), length(bearing)] }
+        }
         2 => Event::Tick { depot, shelf },
         3 => Event::Take { depot, shelf, from },
         4 => Event::Refresh { depot, shelf },

@@ -18,13 +18,13 @@ fn found(slip: Slip) -> Option<Finding> {
         Err(Trouble::Effect(text)) => panic!("the straight version: {}", text),
         Ok(()) => None,
     };
-    (1..=400).find_map(list).or_else(|| (0..16).find_map(damage))
+    (1..=800).find_map(list).or_else(|| (0..16).find_map(damage))
 }
 
 #[test]
 fn every_slip_is_found() {
     let missed: Vec<String> = slips().iter().filter(|&&slip| found(slip).is_none()).map(Slip::to_string).collect();
-    assert!(missed.is_empty(), "not found in 400 lists and 16 rounds of damage: {:?}", missed);
+    assert!(missed.is_empty(), "not found in 800 lists and 16 rounds of damage: {:?}", missed);
 }
 
 #[test]

@@ -7,19 +7,23 @@ use crate::Refusal;
 /// The bytes a line may have, its line feed not counted.
 pub const LONGEST_LINE: usize = 120;
 
-/// All of the desk's output for all of its input. The book starts as zeros; a last line without its line feed counts if
-/// it is not empty.
+/// All of the desk's output for all of its input. The book starts as zeros.
 pub fn desk(input: &[u8]) -> Vec<u8> {
     let mut book = vec![0; WORDS];
     let mut output = Vec::new();
+    for text in lines(input) {
+        output.extend_from_slice(line(&mut book, text).as_bytes());
+    }
+    output
+}
+
+/// The lines of an input, without their line feeds; a last one that has none counts if it is not empty.
+pub(crate) fn lines(input: &[u8]) -> Vec<&[u8]> {
     let mut lines: Vec<&[u8]> = input.split(|&byte| byte == b'\n').collect();
     if lines.last() == Some(&&b""[..]) {
         lines.pop();
     }
-    for text in lines {
-        output.extend_from_slice(line(&mut book, text).as_bytes());
-    }
-    output
+    lines
 }
 
 /// The answer to one line, given without its line feed; the answer has one.
@@ -73,7 +77,7 @@ fn parts(text: &[u8]) -> Option<(u8, Vec<u32>)> {
 }
 
 /// A number of 1 to 10 digits, with no spare leading zero, that 32 bits hold.
-fn number(digits: &[u8]) -> Option<u32> {
+pub(crate) fn number(digits: &[u8]) -> Option<u32> {
     let plain = !digits.is_empty() && digits.len() <= 10 && digits.iter().all(u8::is_ascii_digit);
     let spare_zero = digits.len() > 1 && digits[0] == b'0';
     if !plain || spare_zero {

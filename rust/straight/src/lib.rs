@@ -16,6 +16,7 @@
 //! assert_eq!(read(&mut book, 0, 0), Ok(Reading { value: Some(20), diameter, width, vector: [1, 0, 0, 0] }));
 //! ```
 
+mod audit;
 pub mod calendar;
 mod calls;
 mod card;
@@ -25,6 +26,7 @@ pub mod layout;
 mod looks;
 mod order;
 
+pub use audit::{audit, audit_lines, Verdict, ENTRY, MOST_ENTRIES, READ_ENTRY, WRITE_ENTRY};
 pub use calls::{below, move_crew, read, refresh, setup, take, tick, vector, who_has, write, Reading, Written};
 pub use card::{grams, is_card};
 pub use desk::{desk, line, LONGEST_LINE};

@@ -1,0 +1,4 @@
+pub mod ReadLaws
+pub mod Accepted
+pub mod StreamLaws
+pub mod Whole

@@ -1,0 +1,1 @@
+// What a register has done passes the auditor: statements and proofs alone.
