@@ -204,7 +204,8 @@ module _ (l : List ℕ) (F : fit l ≡ true) (c k : ℕ) (payload : Payload) whe
         let S = sound l F in let a = S .small .depots in let g = S .small .crews in let p = hd in let q = o .crew in
         part-off _ (settledHome l c k) (storedAt d k) 9 crew-size λ j x y. crew-word j (omega arith)
 
-    tests : isCurrent l c k payload ≡ above (countsIn l .depots) (rank (newWrite l F c k payload (o .crew) .version)) (rank (settled (countsIn l .depots) d (view l .crew c) (view l .shelf d s) .store k))
+    tests : isCurrent l c k payload ≡ above (countsIn l .depots) (rank (newWrite l F c k payload (o .crew) .version))
+        (rank (settled (countsIn l .depots) d (view l .crew c) (view l .shelf d s) .store k))
     unfolding isCurrent writeOf
     tests =
         ap (λ (x : List ℕ). above (countsIn l .depots) (rankOf r) (rankOf x)) stored-same

@@ -105,7 +105,8 @@ pub extern "C" fn depot_write(
     ensures { λ r. ⌜ now (book .exit)
         ≡ inRoom writeWords (now (out .entry)) (bookAfter (now (book .entry)) (call (write crew bearing (record { value = value; diameter = diameter; width = width })))) (now (book .entry)) ⌝ }
     ensures { λ r. ⌜ now (out .exit)
-        ≡ inRoom writeWords (now (out .entry)) (filled (wordsOf (replyTo (now (book .entry)) (call (write crew bearing (record { value = value; diameter = diameter; width = width }))))) (now (out .entry))) (now (out .entry)) ⌝ }
+        ≡ inRoom writeWords (now (out .entry)) (filled (wordsOf (replyTo (now (book .entry)) (call (write crew bearing
+        (record { value = value; diameter = diameter; width = width }))))) (now (out .entry))) (now (out .entry)) ⌝ }
 {
     let payload = Payload {
         value,

@@ -27,7 +27,8 @@ fit-length l h = and-stop _ (ne-eqb _ _ h)
 
 -- the book of the paper's setup line, `S 2 2 4 2 0 1`
 pub listing-fit : fit (2 ∷ 2 ∷ 4 ∷ 2 ∷ 0 ∷ 1 ∷ replicate 16378 0) ≡ true
-unfolding fit between inRange othersInRange countsFit homeFit crewFit clockFit stableFit seenFit shelfFit versionFit headFit messagesFit linkFit keptFit storedFit homesFit crewsFit shelvesFit linksFit storesFit partsFit every covered zeros part
+unfolding fit between inRange othersInRange countsFit homeFit crewFit clockFit stableFit seenFit shelfFit versionFit headFit messagesFit linkFit keptFit
+    storedFit homesFit crewsFit shelvesFit linksFit storesFit partsFit every covered zeros part
 listing-fit = refl
 
 -- two depots with one shelf, bearing and crew each: depot 0 has written 20 with the card 1 by 1 and the vector (1, 0) and then ticked, and depot 1
@@ -55,5 +56,6 @@ busy-unfit = (refl, refl)
 pub nine-words :
     (l : List ℕ) → length l ≡ bookWords → getD l 0 0 ≡ 1 → getD l 1 0 ≡ 1 → getD l 2 0 ≡ 1 → getD l 3 0 ≡ 1 →
     getD l 4 0 ≡ 0 → getD l 20 0 ≡ 0 → getD l 84 0 ≡ 0 → getD l 100 0 ≡ 0 → getD l 10601 0 ≡ 0 → fit l ≡ true
-unfolding fit between inRange othersInRange countsFit homeFit crewFit clockFit stableFit seenFit shelfFit versionFit headFit messagesFit linkFit keptFit storedFit homesFit crewsFit shelvesFit linksFit storesFit partsFit every covered zeros
+unfolding fit between inRange othersInRange countsFit homeFit crewFit clockFit stableFit seenFit shelfFit versionFit headFit messagesFit linkFit keptFit
+    storedFit homesFit crewsFit shelvesFit linksFit storesFit partsFit every covered zeros
 nine-words l full d p k c home entry clock own stored = rw (full, d, p, k, c, home, entry, clock, own, part-at l 10596 9 5 (lit≤ tt), stored)

@@ -176,4 +176,5 @@ module _ (π : Counts) where
         u = set-up π homes e
 
         stays : (h : List Call) (c : ℕ) → c < π .crews → refusal π (run π homes h) (move c (run π homes h .home c)) ≡ 0
-        stays h c hc = move-test (run π homes h) c _ hc (inv π homes u h .sound .crews c hc .depot) ∙ passes (lets (run π homes h) c (run π homes h .home c)) (or-left _ _ (eq-eqb (run π homes h .home c) _ refl))
+        stays h c hc = move-test (run π homes h) c _ hc (inv π homes u h .sound .crews c hc .depot) ∙ passes (lets (run π homes h) c (run π homes h .home c))
+            (or-left _ _ (eq-eqb (run π homes h .home c) _ refl))

@@ -30,7 +30,8 @@ caseMove =
 unfoldable pub caseMoveAnswers : List Answer
 caseMoveAnswers =
     current 1 ∷ (refused 12 ∷ (done ∷ (refused 5 ∷ (refused 2 ∷ (done ∷ (refused 12 ∷ (done ∷ (done ∷ (done
-    ∷ (reads (read-value (day 20) (pair 1 0)) ∷ (current 1 ∷ (reads (read-value (day 30) (pair 1 1)) ∷ (refused 12 ∷ (done ∷ (done ∷ (done ∷ (done ∷ (reads (read-value (day 30) (pair 1 1)) ∷ []))))))))))))))))))
+    ∷ (reads (read-value (day 20) (pair 1 0)) ∷ (current 1 ∷ (reads (read-value (day 30) (pair 1 1)) ∷
+    (refused 12 ∷ (done ∷ (done ∷ (done ∷ (done ∷ (reads (read-value (day 30) (pair 1 1)) ∷ []))))))))))))))))))
 
 pub record MoveCase : Type 0 where
   -- crew 0 has to wait for three rounds; two are not enough

@@ -8,7 +8,8 @@ use lib.ListN.{length}
 use Rattle.loops.specs.Loops.{pick}
 use Rattle.paper.specs.Calls.{read-value, read-unwritten, Answer, refused, done, reads, current, superseded}
 use Rattle.paper.specs.declared.answer.Refusal.{Refusal}
-use Rattle.paper.specs.declared.answer.Refusal.the-variants.{BadBook, BadDepot, BadShelf, BadKey, BadCrew, SameDepot, EmptyLink, Wait, LinkFull, ClockAtEnd, BadCounts, NotHereYet, BadDate, BadCard}
+use Rattle.paper.specs.declared.answer.Refusal.the-variants.{BadBook, BadDepot, BadShelf, BadKey, BadCrew, SameDepot, EmptyLink, Wait}
+use Rattle.paper.specs.declared.answer.Refusal.the-variants.{LinkFull, ClockAtEnd, BadCounts, NotHereYet, BadDate, BadCard}
 use Rattle.paper.specs.declared.answer.Answer as plain
 use Rattle.paper.specs.declared.answer.Finding.{Finding}
 use Rattle.paper.specs.declared.answer.ReadAnswer.{ReadAnswer}

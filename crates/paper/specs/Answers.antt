@@ -5,7 +5,8 @@ use mathlib.Core.Path.{_≡_}
 use mathlib.Core.List.{List, [], _∷_}
 use lib.ListN.{length, getD, take}
 use Rattle.paper.specs.declared.answer.Refusal.{Refusal}
-use Rattle.paper.specs.declared.answer.Refusal.the-variants.{BadBook, BadDepot, BadShelf, BadKey, BadCrew, SameDepot, EmptyLink, Wait, LinkFull, ClockAtEnd, BadCounts, NotHereYet, BadDate, BadCard}
+use Rattle.paper.specs.declared.answer.Refusal.the-variants.{BadBook, BadDepot, BadShelf, BadKey, BadCrew, SameDepot, EmptyLink, Wait}
+use Rattle.paper.specs.declared.answer.Refusal.the-variants.{LinkFull, ClockAtEnd, BadCounts, NotHereYet, BadDate, BadCard}
 use Rattle.paper.specs.declared.answer.Answer as answer
 use Rattle.paper.specs.declared.answer.Finding.{Finding}
 use Rattle.paper.specs.declared.answer.ReadAnswer.{ReadAnswer}

@@ -33,7 +33,8 @@ pub made-entry : (l : List ℕ) (c k : ℕ) (payload : Payload) (x : ℕ) → co
 unfolding madeRecord
 made-entry l c k payload x h z = five x ∙ cut-at (countsOf l .depots) (madeVector l c k) x h z
   where
-    five : (y : ℕ) → getD (k ∷ payload .value ∷ payload .diameter ∷ payload .width ∷ home l c ∷ cut (countsOf l .depots) (madeVector l c k)) (5 + y) 0 ≡ getD (cut (countsOf l .depots) (madeVector l c k)) y 0
+    five : (y : ℕ) → getD (k ∷ payload .value ∷ payload .diameter ∷ payload .width ∷ home l c ∷ cut (countsOf l .depots) (madeVector l c k)) (5 + y) 0 ≡ getD
+        (cut (countsOf l .depots) (madeVector l c k)) y 0
     five y = sym (getD-drop 5 (k ∷ payload .value ∷ payload .diameter ∷ payload .width ∷ home l c ∷ cut (countsOf l .depots) (madeVector l c k)) y 0)
 
 pub made-record-of : (l : List ℕ) (c k : ℕ) (payload : Payload) → recordOf (copyKind ∷ madeRecord l c k payload) ≡ madeRecord l c k payload

@@ -14,7 +14,8 @@ use Rattle.line.specs.Printing.{Wrote}
 use Rattle.line.proofs.PrintLaws.{wrote-nothing, wrote-same, wrote-then, wrote-length}
 use Rattle.reply.specs.Printed.{answerRoom}
 use Rattle.events.specs.Answering.{lineFeed, answerTo, bookAfter}
-use Rattle.stream.specs.Stream.{lineAt, bookAt, saysAt, lineThrough, bookThrough, saysThrough, bookLast, saysLast, linePiece, bookPiece, saysPiece, linePieces, bookPieces, zeroBook, lineIn, Holder, Served}
+use Rattle.stream.specs.Stream.{lineAt, bookAt, saysAt, lineThrough, bookThrough, saysThrough, bookLast, saysLast, linePiece}
+use Rattle.stream.specs.Stream.{bookPiece, saysPiece, linePieces, bookPieces, zeroBook, lineIn, Holder, Served}
 use Rattle.events.proofs.SayLaws.{answer-length}
 
 -- ---- one byte

@@ -14,7 +14,8 @@ use Rattle.loops.proofs.BoolLaws.{le-or-lt, eq-or-ne, pick-true, pick-false}
 use Rattle.line.specs.Reading.{Reading, reading}
 use Rattle.line.proofs.LineLaws.{reading-cut}
 use Rattle.events.specs.Answering.{lineFeed, readingSays, readingBook, answerTo, bookAfter}
-use Rattle.stream.specs.Stream.{linesFrom, linesOf, answersTo, bookAfterAll, zeroBook, output, lineAt, bookAt, saysAt, lineThrough, bookThrough, saysThrough, saysLast, bookLast, linePiece, bookPiece, saysPiece, linePieces, bookPieces, saysPieces, joined, Pieces, lineIn, Holder, Served}
+use Rattle.stream.specs.Stream.{linesFrom, linesOf, answersTo, bookAfterAll, zeroBook, output, lineAt, bookAt, saysAt, lineThrough, bookThrough, saysThrough, saysLast}
+use Rattle.stream.specs.Stream.{bookLast, linePiece, bookPiece, saysPiece, linePieces, bookPieces, saysPieces, joined, Pieces, lineIn, Holder, Served}
 use Rattle.stream.proofs.StreamLaws.{line-ends, book-ends, says-ends, line-grows, line-full, book-stays, says-nothing, line-append, book-append, says-append, piece-some}
 
 -- ---- what is kept of a line serves for the line

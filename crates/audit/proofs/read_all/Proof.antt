@@ -25,7 +25,9 @@ read-piece-requires : tie.Need-read-piece-requires Inv-loop μ-loop
 read-piece-requires c κs = c .before .before .before .before .before .loop .inv .3 .fits
 
 loop-less : tie.Need-loop-less Inv-loop μ-loop
-loop-less c = let some : 0 < c .before .before .before .before .before .before .before .before .before .before .before .before .before .loop .pieces = ltb-true 0 _ (c .before .before .before .before .before .before .before .before .before .before .before .if1 .taken) in omega arith
+loop-less c =
+    let some : 0 < c .before .before .before .before .before .before .before .before .before .before .before .before .before .loop .pieces = ltb-true 0 _
+    (c .before .before .before .before .before .before .before .before .before .before .before .if1 .taken) in omega arith
 
 loop-again : tie.Need-loop-again Inv-loop μ-loop
 loop-again c =

@@ -53,10 +53,15 @@ small c =
 -- what the test of the parts says
 parts-said :
     (c : tie.After-read-parts-fit) →
-    let args = c .before .before .before .before .before .before .before .before .args in c .read-parts-fit .result ≡ readParts (countsOf (now (args .book))) (now (args .book)) (args .c .0) (args .k .0)
-parts-said c = c .read-parts-fit .ensures ∙ parts-home _ _ _ (c .before .before .before .before .before .counts-of .ensures) (c .before .before .before .home-depot .ensures) (c .before .before .shelf-for .ensures)
+    let args = c .before .before .before .before .before .before .before .before .args in c .read-parts-fit .result ≡ readParts (countsOf (now (args .book)))
+    (now (args .book)) (args .c .0) (args .k .0)
+parts-said c =
+    c .read-parts-fit .ensures ∙ parts-home _ _ _ (c .before .before .before .before .before .counts-of .ensures)
+    (c .before .before .before .home-depot .ensures) (c .before .before .shelf-for .ensures)
 
-parts-fit : (c : tie.Else1) → let args = c .before .before .before .before .before .before .before .before .before .args in readParts (countsOf (now (args .book))) (now (args .book)) (args .c .0) (args .k .0) ≡ true
+parts-fit : (c : tie.Else1) → let args =
+    c .before .before .before .before .before .before .before .before .before .args in readParts (countsOf (now (args .book))) (now (args .book)) (args .c .0)
+    (args .k .0) ≡ true
 parts-fit c = test-passed (parts-said (c .before)) (c .if1 .left)
 
 -- after settling: the book's length
@@ -100,7 +105,9 @@ settle-home-requires c κs =
     let w = base start in (
       w .full,
       lt-of-lt-of-le (start .pre .1) (w .within .crews),
-      home-ready _ _ _ (c .before .before .before .before .before .before .before .counts-of .ensures) (c .before .before .before .before .before .home-depot .ensures) (c .before .before .before .before .shelf-for .ensures) w (start .pre .1) (parts-fit (c .before)),
+      home-ready _ _ _ (c .before .before .before .before .before .before .before .counts-of .ensures)
+          (c .before .before .before .before .before .home-depot .ensures) (c .before .before .before .before .shelf-for .ensures) w (start .pre .1)
+          (parts-fit (c .before)),
     )
 
 stored-at-requires : tie.Need-stored-at-requires

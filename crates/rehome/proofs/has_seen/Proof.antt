@@ -23,7 +23,8 @@ returns c =
     let vector = c .before .before .before .before .before .crew-vector in
     c .is-covered .ensures
     ∙ ap (λ (x : ℕ). covered (args .n .depots) x (vectorIn (vector .result)) (vectorIn (lowest .result))) (c .before .index .ensures)
-    ∙ covered-four (args .n .depots) (args .d .0) (crewVector book (args .c .0)) (lowestSeen (args .n .depots) (args .n .shelves) (args .d .0) book) (start .pre .1 .depots) (vector .ensures) (lowest .ensures)
+    ∙ covered-four (args .n .depots) (args .d .0) (crewVector book (args .c .0)) (lowestSeen (args .n .depots) (args .n .shelves) (args .d .0) book)
+    (start .pre .1 .depots) (vector .ensures) (lowest .ensures)
     ∙ ap (λ (n : Counts). covered (n .depots) (args .d .0) (crewVector book (args .c .0)) (lowestSeen (n .depots) (n .shelves) (args .d .0) book)) (start .pre .2)
 
 pub has-seen-spec : {M : Type 1} → statement M

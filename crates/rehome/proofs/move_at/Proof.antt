@@ -74,8 +74,11 @@ returns-3 : tie.Need-returns-3
 unfolding moveBook paper
 returns-3 c =
     let start = c .before .before .before .before .before .before .before .before .before .before .before .before .before in
-    let e = move-good _ _ _ (start .pre .0) (start .pre .1) (start .pre .2) (parts-fit (c .before .before .before .before .before .before .before)) (test-passed (c .before .before .before .before .before .is-open .ensures) (c .before .before .before .before .if2 .left)) in
+    let e = move-good _ _ _ (start .pre .0) (start .pre .1) (start .pre .2) (parts-fit (c .before .before .before .before .before .before .before))
+    (test-passed (c .before .before .before .before .before .is-open .ensures) (c .before .before .before .before .if2 .left)) in
     record { answer = by-done e; book = c .before .before .set-home .ensures ∙ after-done _ _ e }
 
 pub move-at-spec : {M : Type 1} → statement M
-move-at-spec = tie.close (tie.spec counts-of-requires move-parts-fit-requires (λ c. search needs) returns is-open-requires (λ c. search needs) returns-2 set-home-requires (λ c. search needs) returns-3)
+move-at-spec =
+    tie.close (tie.spec counts-of-requires move-parts-fit-requires (λ c. search needs) returns is-open-requires (λ c. search needs) returns-2 set-home-requires
+    (λ c. search needs) returns-3)

@@ -47,7 +47,8 @@ unfolding numberOf paper
 returns-3 c =
     let args = c .before .before .before .before .before .before .before .before .before .before .before .before .before .args in
     let n = c .before .before .before .before .before .before .before .counts-of .ensures in
-    let under = subst (λ (m : Counts). args .crew < m .crews) n (good-crew _ (c .before .before .before .before .before .before .checked .ensures) (c .before .before .before .before .c .given .1) .0) in
+    let under = subst (λ (m : Counts). args .crew < m .crews) n (good-crew _ (c .before .before .before .before .before .before .checked .ensures)
+    (c .before .before .before .before .c .given .1) .0) in
     let over = subst (λ (m : Counts). m .depots ≤ args .depot) n (bad-depot (c .before .before .checked2 .ensures) (c .enum-told2 .given .1)) in
     let e = move-depot (now (args .book)) (args .crew) (args .depot) (base-book (c .before .before .before .before .before .before .before .before .before)) under over in
     record { answer = by-refusal BadDepot _ e; book = after-refused BadDepot _ _ e }
@@ -68,7 +69,8 @@ returns-4 : tie.Need-returns-4
 returns-4 c =
     let call = c .before .before .move-at in
     let book = now (c .before .before .before .before .before .before .before .before .before .before .before .before .before .before .before .before .before .before .args .book) in
-    let crew = good-crew _ (c .before .before .before .before .before .before .before .before .before .before .before .checked .ensures) (c .before .before .before .before .before .before .before .before .before .c .given .1) in
+    let crew = good-crew _ (c .before .before .before .before .before .before .before .before .before .before .before .checked .ensures)
+    (c .before .before .before .before .before .before .before .before .before .c .given .1) in
     let depot = good-depot _ (c .before .before .before .before .before .before .before .checked2 .ensures) (c .before .before .before .before .before .d .given .1) in
     subst₂ (λ (x : Crew) (y : Depot). Move book (x .0) (y .0) (call .result) (call .last .0)) (sym (crew .1)) (sym (depot .1)) (call .ensures)
 

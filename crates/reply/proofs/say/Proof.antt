@@ -64,7 +64,9 @@ returns-5 c = said-as _ (c .before .before .before .before .before .outcome3 .gi
 
 returns-6 : tie.Need-returns-6
 unfolding printed paperOutcome
-returns-6 c = said-as _ (c .before .before .before .before .before .before .outcome4 .given .1) (wrote-same (ap numberAnswer (c .before .before .before .number-of .ensures)) (c .before .before .answer-number2 .ensures))
+returns-6 c =
+    said-as _ (c .before .before .before .before .before .before .outcome4 .given .1)
+    (wrote-same (ap numberAnswer (c .before .before .before .number-of .ensures)) (c .before .before .answer-number2 .ensures))
 
 pub say-spec : {M : Type 1} → statement M
 say-spec =

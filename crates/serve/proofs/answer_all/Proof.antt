@@ -22,11 +22,14 @@ loop-holds : tie.Need-loop-holds Inv-loop μ-loop
 loop-holds c = (refl, refl, refl, refl, c .before .before .before .before .pre .0)
 
 turn-requires : tie.Need-turn-requires Inv-loop μ-loop
-turn-requires c κs = let inv = c .before .before .before .before .before .before .loop .inv in (inv .4 .holder, omega (arith, inv .2, inv .3, c .before .before .before .before .before .before .before .before .before .before .before .pre .1))
+turn-requires c κs =
+    let inv = c .before .before .before .before .before .before .loop .inv in
+    (inv .4 .holder, omega (arith, inv .2, inv .3, c .before .before .before .before .before .before .before .before .before .before .before .pre .1))
 
 loop-less : tie.Need-loop-less Inv-loop μ-loop
 loop-less c =
-    let some : 0 < c .before .before .before .before .before .before .before .before .before .before .before .before .before .before .before .before .loop .pieces = ltb-true 0 _ (c .before .before .before .before .before .before .before .before .before .before .before .before .before .before .if1 .taken) in omega arith
+    let some : 0 < c .before .before .before .before .before .before .before .before .before .before .before .before .before .before .before .before .loop .pieces =
+    ltb-true 0 _ (c .before .before .before .before .before .before .before .before .before .before .before .before .before .before .if1 .taken) in omega arith
 
 loop-again : tie.Need-loop-again Inv-loop μ-loop
 loop-again c =

@@ -10,12 +10,23 @@ use Rattle.stream.proofs.answer_piece.Statement.{statement}
 use Rattle.stream.proofs.answer_piece.Tie as tie
 
 slice-aggregate-result : tie.Need-slice-aggregate-result
-slice-aggregate-result c = sym (length-take-le _ _ (omega (arith, piece-room _ _ _ (c .before .before .before .before .before .before .before .before .next-piece .ensures .1 .1) (c .before .before .before .before .before .before .before .before .before .before .before .before .before .before .before .before .pre .1))))
+slice-aggregate-result c =
+    sym (length-take-le _ _ (omega (
+      arith,
+      piece-room _ _ _ (c .before .before .before .before .before .before .before .before .next-piece .ensures .1 .1)
+          (c .before .before .before .before .before .before .before .before .before .before .before .before .before .before .before .before .pre .1),
+    )))
 
 returns : tie.Need-returns
 returns c =
-    let done = c .before .before .before .before .before .before .before .before .next-piece .ensures in
-    (done .0, (done .1 .0, wrote-start (done .1 .1) (piece-room _ _ _ (done .1 .1) (c .before .before .before .before .before .before .before .before .before .before .before .before .before .before .before .before .pre .1))))
+    let done = c .before .before .before .before .before .before .before .before .next-piece .ensures in (
+      done .0,
+      (
+        done .1 .0,
+        wrote-start (done .1 .1) (piece-room _ _ _ (done .1 .1)
+            (c .before .before .before .before .before .before .before .before .before .before .before .before .before .before .before .before .pre .1)),
+      ),
+    )
 
 pub answer-piece-spec : {M : Type 1} → statement M
 answer-piece-spec =

@@ -38,8 +38,13 @@ loop-less c = omega (arith, c .before .before .before .before .before .before .b
 loop-again : tie.Need-loop-again Inv-loop μ-loop
 loop-again c =
     let call = c .before .before .before .before .before .before .feed-byte in
-    let inv = c .before .before .before .before .before .before .before .before .before .before .before .before .loop .inv in
-    (call .kept .0 ∙ inv .0, call .kept .1 .0 ∙ inv .1, fed-step (inv .2) (c .before .before .before .before .before .before .before .before .before .before .before .loop-test .taken) (call .ensures .0) (call .ensures .1 .0) (call .ensures .1 .1))
+    let inv = c .before .before .before .before .before .before .before .before .before .before .before .before .loop .inv in (
+      call .kept .0 ∙ inv .0,
+      call .kept .1 .0 ∙ inv .1,
+      fed-step (inv .2)
+          (c .before .before .before .before .before .before .before .before .before .before .before .loop-test .taken) (call .ensures .0) (call .ensures .1 .0)
+          (call .ensures .1 .1),
+    )
 
 same-length : tie.Need-same-length Inv-loop μ-loop
 same-length c = c .before .loop .inv .0

@@ -32,16 +32,21 @@ other c e = c .if1 .left (c .before .before .index .ensures ∙ e ∙ sym (c .be
 -- what the test of the parts says
 parts-said :
     (c : tie.After-take-parts-fit) →
-    let args = c .before .before .before .before .before .before .before .args in c .take-parts-fit .result ≡ takeParts (countsOf (now (args .book))) (now (args .book)) (args .d .0) (args .s .0) (args .from .0)
+    let args = c .before .before .before .before .before .before .before .args in c .take-parts-fit .result ≡ takeParts (countsOf (now (args .book)))
+    (now (args .book)) (args .d .0) (args .s .0) (args .from .0)
 parts-said c =
     let args = c .before .before .before .before .before .before .before .args in
     c .take-parts-fit .ensures ∙ ap (λ (n : Counts). takeParts n (now (args .book)) (args .d .0) (args .s .0) (args .from .0)) (c .before .counts-of .ensures)
 
-parts-fit : (c : tie.Else2) → let args = c .before .before .before .before .before .before .before .before .args in takeParts (countsOf (now (args .book))) (now (args .book)) (args .d .0) (args .s .0) (args .from .0) ≡ true
+parts-fit : (c : tie.Else2) → let args =
+    c .before .before .before .before .before .before .before .before .args in takeParts (countsOf (now (args .book))) (now (args .book)) (args .d .0)
+    (args .s .0) (args .from .0) ≡ true
 parts-fit c = test-passed (parts-said (c .before)) (c .if2 .left)
 
 fits : (c : tie.Else2) → let args = c .before .before .before .before .before .before .before .before .args in takeFit (now (args .book)) (args .d .0) (args .s .0) (args .from .0) ≡ true
-fits c = let pre = c .before .before .before .before .before .before .before .before .pre in take-parts _ _ _ _ (pre .0) (pre .1) (pre .2) (pre .3) (other (c .before .before .before .before)) ∙ parts-fit c
+fits c =
+    let pre = c .before .before .before .before .before .before .before .before .pre in take-parts _ _ _ _ (pre .0) (pre .1) (pre .2) (pre .3)
+    (other (c .before .before .before .before)) ∙ parts-fit c
 
 small : (c : tie.After-between) → c .between .result .0 < 64
 small c =

@@ -47,7 +47,8 @@ early c = subst (λ (x : ℕ). x < end) (c .before .clock-of .ensures) (c .if2 .
 -- what the test of the room says
 roomy-said :
     (c : tie.After-is-roomy) →
-    let args = c .before .before .before .before .before .before .before .before .before .before .before .args in c .is-roomy .result ≡ roomy (countsOf (now (args .book)) .depots) (args .d .0) (args .s .0) (now (args .book))
+    let args = c .before .before .before .before .before .before .before .before .before .before .before .args in c .is-roomy .result ≡ roomy
+    (countsOf (now (args .book)) .depots) (args .d .0) (args .s .0) (now (args .book))
 roomy-said c =
     let args = c .before .before .before .before .before .before .before .before .before .before .before .args in
     c .is-roomy .ensures ∙ ap (λ (n : Counts). roomy (n .depots) (args .d .0) (args .s .0) (now (args .book))) (c .before .before .before .before .before .before .before .before .counts-of .ensures)
@@ -106,8 +107,12 @@ send-requires c κs =
     let start = c .before .before .before .before .before .before .before .before .before .before .before .before .before .before in
     let book = now (start .args .book) in
     let w = base start in
-    let room = test-passed (roomy-said (at3 .before)) (at3 .if3 .left) in
-    (w .full, refl, subst (λ (n : Counts). Free (n .depots) (start .args .d .0) (start .args .s .0) book) (sym counts) (roomy-free (countsOf book) book (w .within) _ _ (start .pre .1) (start .pre .2) room))
+    let room = test-passed (roomy-said (at3 .before)) (at3 .if3 .left) in (
+      w .full,
+      refl,
+      subst (λ (n : Counts). Free (n .depots) (start .args .d .0) (start .args .s .0) book) (sym counts)
+          (roomy-free (countsOf book) book (w .within) _ _ (start .pre .1) (start .pre .2) room),
+    )
 
 returns-4 : tie.Need-returns-4
 unfolding tickBook paper

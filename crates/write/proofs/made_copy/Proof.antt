@@ -18,7 +18,8 @@ returns c =
     let vector = c .before .before .before .before .before .made-vector .ensures in
     let args = c .before .before .before .before .before .before .before .args in
     c .message-of .ensures
-    ∙ (λ z. copyKind ∷ bearing z ∷ args .value ∷ wordOf (args .card .diameter) ∷ wordOf (args .card .width) ∷ origin z ∷ getD (vector z) 0 0 ∷ getD (vector z) 1 0 ∷ getD (vector z) 2 0 ∷ getD (vector z) 3 0 ∷ [])
+    ∙ (λ z. copyKind ∷ bearing z ∷ args .value ∷ wordOf (args .card .diameter) ∷ wordOf (args .card .width) ∷ origin z ∷ getD (vector z) 0 0 ∷ getD
+    (vector z) 1 0 ∷ getD (vector z) 2 0 ∷ getD (vector z) 3 0 ∷ [])
 
 pub made-copy-spec : {M : Type 1} → statement M
 made-copy-spec =

@@ -22,7 +22,9 @@ loop-holds : tie.Need-loop-holds Inv-loop μ-loop
 loop-holds c = (search needs, below-none _)
 
 returns : tie.Need-returns Inv-loop μ-loop
-returns c = sym (some-here _ _ _ (omega (arith, c .before .before .before .before .before .before .pre .0 .count, c .before .before .loop-test .taken)) (sym (c .before .is-sought .ensures) ∙ c .if1 .taken))
+returns c =
+    sym (some-here _ _ _ (omega (arith, c .before .before .before .before .before .before .pre .0 .count, c .before .before .loop-test .taken))
+    (sym (c .before .is-sought .ensures) ∙ c .if1 .taken))
 
 loop-again : tie.Need-loop-again Inv-loop μ-loop
 loop-again c = (search needs, below-more _ _ (c .before .before .before .loop .inv .1) (sym (c .before .is-sought .ensures) ∙ c .if1 .left))

@@ -18,7 +18,9 @@ returns-2 c = sym (or-next _ (sym (c .before .before .before .is-earlier .ensure
 
 returns-3 : tie.Need-returns-3
 unfolding restsOn
-returns-3 c = c .is-wrote .ensures ∙ sym (or-next _ (sym (c .before .before .before .before .is-earlier .ensures) ∙ c .before .before .before .if1 .left) ∙ and-next _ (eq-eqb _ _ (c .before .if2 .left)))
+returns-3 c =
+    c .is-wrote .ensures ∙ sym (or-next _ (sym (c .before .before .before .before .is-earlier .ensures) ∙ c .before .before .before .if1 .left) ∙ and-next _
+    (eq-eqb _ _ (c .before .if2 .left)))
 
 pub rests-on-spec : {M : Type 1} → statement M
 rests-on-spec =

@@ -11,8 +11,11 @@ close-requires c κs = (c .before .before .before .mark-all .ensures .sized, sea
 
 returns : tie.Need-returns
 returns c =
-    let pre = c .before .before .before .before .before .before .before .before .before .before .pre in
-    (c .before .before .close .ensures .0, closed-same (pre .0 .count) (marked-steps _ _ (pre .0 .few) (pre .1) (c .before .before .before .before .before .before .mark-all .ensures)) (c .before .before .close .ensures .1))
+    let pre = c .before .before .before .before .before .before .before .before .before .before .pre in (
+      c .before .before .close .ensures .0,
+      closed-same (pre .0 .count) (marked-steps _ _ (pre .0 .few) (pre .1)
+          (c .before .before .before .before .before .before .mark-all .ensures)) (c .before .before .close .ensures .1),
+    )
 
 pub fill-spec : {M : Type 1} → statement M
 fill-spec =

@@ -38,7 +38,8 @@ returns-3 : tie.Need-returns-3 Inv-loop μ-loop
 returns-3 c =
     c .bad-words3 .ensures
     ∙ filled-refused _ _ _ (c .before .before .before .before .before .before .before .before .loop .inv .1)
-    (numbers-missed _ _ _ (c .before .before .before .before .before .before .before .loop-test .taken) (missed _ _ (sym (c .before .before .before .read-number .ensures) ∙ c .before .enum-told .given .1)))
+    (numbers-missed _ _ _ (c .before .before .before .before .before .before .before .loop-test .taken)
+    (missed _ _ (sym (c .before .before .before .read-number .ensures) ∙ c .before .enum-told .given .1)))
 
 loop-less : tie.Need-loop-less Inv-loop μ-loop
 loop-less c =
@@ -50,7 +51,8 @@ loop-again : tie.Need-loop-again Inv-loop μ-loop
 loop-again c =
     let number = found _ _ (sym (c .before .before .before .read-number .ensures) ∙ c .before .found .given .1) in (
       search needs,
-      filled-turn _ _ _ _ _ _ (c .before .before .before .before .before .before .before .before .loop .inv .0) (c .before .before .before .before .before .before .if1 .left) (c .before .before .before .before .before .before .before .before .loop .inv .1)
+      filled-turn _ _ _ _ _ _ (c .before .before .before .before .before .before .before .before .loop .inv .0)
+          (c .before .before .before .before .before .before .if1 .left) (c .before .before .before .before .before .before .before .before .loop .inv .1)
           (numbers-found _ _ _ (c .before .before .before .before .before .before .before .loop-test .taken) (c .before .before .before .before .if2 .left) number),
     )
 

@@ -22,7 +22,9 @@ slice-aggregate-read-numbers : tie.Need-slice-aggregate-read-numbers
 slice-aggregate-read-numbers c = sym (length-take-le _ _ (omega arith))
 
 returns-4 : tie.Need-returns-4
-returns-4 c = c .read-numbers4 .ensures ∙ ap stored (sym (read-dashed _ (c .before .before .before .before .before .before .if1 .left) (c .before .before .before .before .if2 .left) (c .before .before .if3 .left)))
+returns-4 c =
+    c .read-numbers4 .ensures ∙ ap stored (sym (read-dashed _ (c .before .before .before .before .before .before .if1 .left)
+    (c .before .before .before .before .if2 .left) (c .before .before .if3 .left)))
 
 pub read-read-spec : {M : Type 1} → statement M
 read-read-spec =

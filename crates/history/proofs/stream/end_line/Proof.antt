@@ -17,10 +17,15 @@ slice-aggregate-read-line : tie.Need-slice-aggregate-read-line
 slice-aggregate-read-line c = sym (length-take-le _ _ (omega (arith, c .before .before .before .before .pre .bytes, c .before .before .before .before .pre .kept-few)))
 
 put-words-requires : tie.Need-put-words-requires
-put-words-requires c κs = let e = ap length (c .before .before .read-line .ensures) ∙ stored-length _ in omega (arith, c .before .before .before .before .before .before .before .pre .room, c .before .before .before .before .if1 .left)
+put-words-requires c κs =
+    let e = ap length (c .before .before .read-line .ensures) ∙ stored-length _ in omega
+    (arith, c .before .before .before .before .before .before .before .pre .room, c .before .before .before .before .if1 .left)
 
 returns-2 : tie.Need-returns-2
-returns-2 c = let done = ended-few _ _ _ _ (c .before .before .before .before .before .before .before .before .before .before .pre) (c .before .before .before .before .before .before .before .if1 .left) _ (c .before .before .before .before .before .read-line .ensures) (c .before .before .put-words .ensures) in (done .0, (refl, done .1))
+returns-2 c =
+    let done = ended-few _ _ _ _ (c .before .before .before .before .before .before .before .before .before .before .pre)
+    (c .before .before .before .before .before .before .before .if1 .left) _ (c .before .before .before .before .before .read-line .ensures)
+    (c .before .before .put-words .ensures) in (done .0, (refl, done .1))
 
 pub end-line-spec : {M : Type 1} → statement M
 end-line-spec =

@@ -23,7 +23,13 @@ feed-byte-requires : tie.Need-feed-byte-requires Inv-loop μ-loop
 feed-byte-requires c κs = c .before .before .before .before .loop .inv .1
 
 loop-again : tie.Need-loop-again Inv-loop μ-loop
-loop-again c = (search needs, c .before .before .before .before .feed-byte .ensures .0, through-next _ _ _ (c .before .before .before .before .before .before .before .before .loop-test .taken) (c .before .before .before .before .feed-byte .ensures .1) ∙ c .before .before .before .before .before .before .before .before .before .loop .inv .2)
+loop-again c = (
+  search needs,
+  c .before .before .before .before .feed-byte .ensures .0,
+  through-next _ _ _
+      (c .before .before .before .before .before .before .before .before .loop-test .taken) (c .before .before .before .before .feed-byte .ensures .1)
+      ∙ c .before .before .before .before .before .before .before .before .before .loop .inv .2,
+)
 
 returns : tie.Need-returns Inv-loop μ-loop
 returns c = (c .before .loop .inv .1, sym (through-over _ _ _ (c .loop-test .left)) ∙ c .before .loop .inv .2)

@@ -10,7 +10,11 @@ returns : tie.Need-returns
 returns c = finished-empty _ _ _ _ (c .before .before .before .pre) (c .if1 .taken)
 
 returns-2 : tie.Need-returns-2
-returns-2 c = (c .before .before .end-line .ensures .0, c .before .before .end-line .ensures .1 .1 ∙ finished-last _ _ _ _ (c .before .before .before .before .before .before .before .pre) (c .before .before .before .before .if1 .left))
+returns-2 c = (
+  c .before .before .end-line .ensures .0,
+  c .before .before .end-line .ensures .1 .1 ∙ finished-last _ _ _ _
+      (c .before .before .before .before .before .before .before .pre) (c .before .before .before .before .if1 .left),
+)
 
 pub finish-spec : {M : Type 1} → statement M
 finish-spec =

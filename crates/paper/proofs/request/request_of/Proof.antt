@@ -17,27 +17,45 @@ by-event ns p h = h ∙ sym (ap (λ (x : Event). requestIn x ns) p)
 
 returns : tie.Need-returns
 unfolding requestIn
-returns c = by-event _ (c .enum-told .given .1) (λ z. request.Setup (c .before .before .before .before .before .before .number-at .ensures z) (c .before .before .before .before .before .number-at2 .ensures z) (c .before .before .before .before .number-at3 .ensures z) (c .before .before .before .number-at4 .ensures z))
+returns c =
+    by-event _ (c .enum-told .given .1) (λ z. request.Setup (c .before .before .before .before .before .before .number-at .ensures z)
+    (c .before .before .before .before .before .number-at2 .ensures z) (c .before .before .before .before .number-at3 .ensures z)
+    (c .before .before .before .number-at4 .ensures z))
 
 returns-2 : tie.Need-returns-2
 unfolding requestIn
-returns-2 c = by-event _ (c .enum-told2 .given .1) (λ z. request.Read (c .before .before .before .before .before .before .number-at .ensures z) (c .before .before .before .before .before .number-at2 .ensures z))
+returns-2 c =
+    by-event _ (c .enum-told2 .given .1) (λ z. request.Read (c .before .before .before .before .before .before .number-at .ensures z)
+    (c .before .before .before .before .before .number-at2 .ensures z))
 
 returns-3 : tie.Need-returns-3
 unfolding requestIn
-returns-3 c = by-event _ (c .enum-told3 .given .1) (λ z. request.Write (c .before .before .before .before .before .before .number-at .ensures z) (c .before .before .before .before .before .number-at2 .ensures z) (record { value = c .before .before .before .before .number-at3 .ensures z; diameter = c .before .before .before .number-at4 .ensures z; width = c .before .before .number-at5 .ensures z }))
+returns-3 c =
+    by-event _ (c .enum-told3 .given .1) (λ z. request.Write (c .before .before .before .before .before .before .number-at .ensures z)
+    (c .before .before .before .before .before .number-at2 .ensures z) (record {
+      value = c .before .before .before .before .number-at3 .ensures z;
+      diameter =
+          c .before .before .before .number-at4 .ensures z;
+      width = c .before .before .number-at5 .ensures z;
+    }))
 
 returns-4 : tie.Need-returns-4
 unfolding requestIn
-returns-4 c = by-event _ (c .enum-told4 .given .1) (λ z. request.Tick (c .before .before .before .before .before .before .number-at .ensures z) (c .before .before .before .before .before .number-at2 .ensures z))
+returns-4 c =
+    by-event _ (c .enum-told4 .given .1) (λ z. request.Tick (c .before .before .before .before .before .before .number-at .ensures z)
+    (c .before .before .before .before .before .number-at2 .ensures z))
 
 returns-5 : tie.Need-returns-5
 unfolding requestIn
-returns-5 c = by-event _ (c .enum-told5 .given .1) (λ z. request.Take (c .before .before .before .before .before .before .number-at .ensures z) (c .before .before .before .before .before .number-at2 .ensures z) (c .before .before .before .before .number-at3 .ensures z))
+returns-5 c =
+    by-event _ (c .enum-told5 .given .1) (λ z. request.Take (c .before .before .before .before .before .before .number-at .ensures z)
+    (c .before .before .before .before .before .number-at2 .ensures z) (c .before .before .before .before .number-at3 .ensures z))
 
 returns-6 : tie.Need-returns-6
 unfolding requestIn
-returns-6 c = by-event _ (c .enum-told6 .given .1) (λ z. request.Refresh (c .before .before .before .before .before .before .number-at .ensures z) (c .before .before .before .before .before .number-at2 .ensures z))
+returns-6 c =
+    by-event _ (c .enum-told6 .given .1) (λ z. request.Refresh (c .before .before .before .before .before .before .number-at .ensures z)
+    (c .before .before .before .before .before .number-at2 .ensures z))
 
 pub request-of-spec : {M : Type 1} → statement M
 request-of-spec =

@@ -6,7 +6,10 @@ use Rattle.report.proofs.conclude.conclude.Statement.{statement}
 use Rattle.report.proofs.conclude.conclude.Tie as tie
 
 returns : tie.Need-returns
-returns c = concluded (c .before .before .before .before .before .before .before .before .before .before .before .before .before .pre .0) (c .before .before .before .before .before .before .before .before .finish .ensures .1) (c .before .before .before .before .report .ensures) (c .before .before .say .ensures) (c .before .before .before .before .before .before .before .before .before .before .before .before .before .pre .1)
+returns c =
+    concluded (c .before .before .before .before .before .before .before .before .before .before .before .before .before .pre .0)
+    (c .before .before .before .before .before .before .before .before .finish .ensures .1) (c .before .before .before .before .report .ensures)
+    (c .before .before .say .ensures) (c .before .before .before .before .before .before .before .before .before .before .before .before .before .pre .1)
 
 pub conclude-spec : {M : Type 1} → statement M
 conclude-spec =

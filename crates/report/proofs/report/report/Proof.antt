@@ -23,7 +23,8 @@ slice-aggregate-audit c = sym (length-take-le _ _ (omega (arith, c .before .befo
 
 returns-3 : tie.Need-returns-3
 returns-3 c =
-    not-so (λ l. omega (arith, l, c .before .before .before .before .if1 .left)) (unnamed (c .before .before .before .first-bad .ensures) (λ j l p. p) (λ j l p. p) (c .before .before .if2 .left) (found (c .audit .ensures)))
+    not-so (λ l. omega (arith, l, c .before .before .before .before .if1 .left))
+    (unnamed (c .before .before .before .first-bad .ensures) (λ j l p. p) (λ j l p. p) (c .before .before .if2 .left) (found (c .audit .ensures)))
 
 pub report-spec : {M : Type 1} → statement M
 report-spec =

@@ -21,7 +21,11 @@ print-number-requires c κs = room-then _ (room-first _ (10 ∷ []) (c .before .
 slice-write-out : tie.Need-slice-write-out
 unfolding ended numbered
 slice-write-out c =
-    omega (arith, room-then (10 ∷ []) (c .before .before .before .before .before .before .before .before .before .before .pre) (wrote-then (c .before .before .before .before .before .before .print-text .ensures) (c .before .before .print-number .ensures)) .room)
+    omega (
+      arith,
+      room-then (10 ∷ []) (c .before .before .before .before .before .before .before .before .before .before .pre)
+          (wrote-then (c .before .before .before .before .before .before .print-text .ensures) (c .before .before .print-number .ensures)) .room,
+    )
 
 add-result : tie.Need-add-result
 add-result c = let h = slice-write-out c in search needs
