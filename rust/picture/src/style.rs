@@ -66,3 +66,37 @@ const COLOURS: [(&str, &str, &str); 24] = [
     (".read", "fill:#ffffff;stroke:#15191e", "fill:#12161b;stroke:#f2f4f7"),
     (".cross,.fresh", "stroke:#a0140a", "stroke:#ffa198"),
 ];
+
+#[cfg(test)]
+mod tests {
+    use super::*;
+
+    /// The luminance of a colour like #15191e, by the rule of the web's guidelines.
+    fn luminance(colour: &str) -> f64 {
+        let part = |at: usize| f64::from(u8::from_str_radix(&colour[at..at + 2], 16).unwrap()) / 255.0;
+        let linear = |part: f64| if part <= 0.04045 { part / 12.92 } else { ((part + 0.055) / 1.055).powf(2.4) };
+        0.2126 * linear(part(1)) + 0.7152 * linear(part(3)) + 0.0722 * linear(part(5))
+    }
+
+    /// The colour that a selector's rule gives to text or ground, by light or by dark.
+    fn fill(selector: &str, dark: bool) -> &'static str {
+        let of = |&&(selectors, _, _): &&(&str, &str, &str)| selectors.split(',').any(|one| one == selector);
+        let (_, light, dim) = COLOURS.iter().find(of).unwrap();
+        let rule = if dark { dim } else { light };
+        &rule.strip_prefix("fill:").unwrap()[..7]
+    }
+
+    #[test]
+    fn every_text_has_contrast() {
+        let beside = ["text", ".thin", ".desk", ".number", ".refused", ".hidden", ".shown"].map(|text| (text, ".paper"));
+        let inside = [(".written-in", ".written"), (".green-in", ".green"), (".taken-in", ".taken"), ("text", ".read")];
+        let heads = [("text", ".band"), (".thin", ".band")];
+        for (text, ground) in beside.into_iter().chain(inside).chain(heads) {
+            for dark in [false, true] {
+                let (a, b) = (luminance(fill(text, dark)), luminance(fill(ground, dark)));
+                let contrast = (a.max(b) + 0.05) / (a.min(b) + 0.05);
+                assert!(contrast >= 7.0, "{} on {}, dark {}: {:.1}", text, ground, dark, contrast);
+            }
+        }
+    }
+}
