@@ -30,6 +30,10 @@ extern "C" {
 #define DEPOT_WRITE_WORDS 2    /* room that depot_write's answer takes in `out` */
 #define DEPOT_WHO_WORDS 2      /* room that depot_who_has's answer takes in `out` */
 #define DEPOT_GRAMS_WORDS 2    /* room that depot_grams' answer takes in `out` */
+#define DEPOT_FRAME_WORDS 1    /* room that what depot_write_frame and depot_read_frame tell takes in `out` */
+#define DEPOT_MESSAGE_WORDS 10 /* words of a message that depot_read_frame hands out */
+#define DEPOT_FRAME_MESSAGES 16 /* the most messages of a frame */
+#define DEPOT_FRAME_BYTES 516  /* bytes of the longest frame */
 #define DEPOT_NUMBER_WORDS 1   /* room that depot_day_number's answer takes in `out` */
 #define DEPOT_DATE_WORDS 3     /* room that depot_date_of's answer takes in `out` */
 #define DEPOT_NEXT_WORDS 4     /* room that depot_next_date's answer takes in `out` */
@@ -117,6 +121,28 @@ uint32_t depot_greater(const uint32_t *a, size_t a_words, const uint32_t *b, siz
  * start of `out`, no byte past it is written, and its length comes back. 0 is this function's answer for no
  * room: with out_length below DEPOT_ANSWER_BYTES nothing is done, and neither book nor `out` is written. */
 size_t depot_line(uint32_t *book, size_t words, const uint8_t *line, size_t length, uint8_t *out, size_t out_length);
+
+/* Frames for the radio link: docs/FRAMES.md has every byte. The book is only read. Besides the numbers above: */
+enum depot_frame_answer {
+    DEPOT_BAD_COUNT = 101, /* the count is 0, over 16, or over what stands untaken */
+    DEPOT_BAD_FRAME = 102, /* the bytes are no frame of this link */
+    DEPOT_OLD = 103,       /* the serial is 1 to 32,767 behind the expected one */
+    DEPOT_GAP = 104        /* the serial is any other but the expected one */
+};
+
+/* The `count` oldest untaken messages of the link of a shelf from depot `from` to `depot`, as the frame with this serial.
+ * Checks: 100 if out_count is 0, 1, 2 for either depot, 3, 6, 7, 101, 100 if the frame has more than `room` bytes.
+ * Done: the frame stands in `frame` from its first byte on, no byte past it is written, and out[0] is how many it has. */
+uint32_t depot_write_frame(const uint32_t *book, size_t words, uint32_t depot, uint32_t shelf, uint32_t from, uint32_t count,
+                           uint16_t serial, uint8_t *frame, size_t room, uint32_t *out, size_t out_count);
+
+/* Reads the `length` bytes of `frame`, any, as a frame of that link, where this serial is expected. Checks: 100 if out_count
+ * is 0, 1, 2 for either depot, 3, 6, 102, 103, 104, 100 if `room` is below 10 for each message.
+ * Done: the messages stand in `messages`, DEPOT_MESSAGE_WORDS each, no word past them is written, and out[0] is how many
+ * there are. */
+uint32_t depot_read_frame(const uint32_t *book, size_t words, uint32_t depot, uint32_t shelf, uint32_t from, uint16_t expected,
+                          const uint8_t *frame, size_t length, uint32_t *messages, size_t room, uint32_t *out,
+                          size_t out_count);
 
 /* The calendar: the dates from 1 January 2000, which is day 0, to 31 December 2399. Months are 1 to 12. Any numbers get an
  * answer. A refusal, any number but 0, writes nothing to `out`. DEPOT_NO_ROOM is one, checked first. No element past the

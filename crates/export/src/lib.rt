@@ -1,6 +1,7 @@
 // The register as C calls it: each function makes one call and gives the number of its answer. include/depot_register.h declares them.
 pub mod audit;
 pub mod days;
+pub mod frames;
 pub mod moves;
 
 use book::parts::wide;

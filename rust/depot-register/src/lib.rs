@@ -49,6 +49,7 @@ mod answers;
 pub mod audit;
 pub mod calendar;
 mod card;
+pub mod frames;
 mod numbers;
 pub mod raw;
 

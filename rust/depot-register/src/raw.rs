@@ -40,6 +40,35 @@ mod library {
         pub fn depot_greater(a: *const u32, a_words: usize, b: *const u32, b_words: usize, depots: u32) -> u32;
         pub fn depot_line(book: *mut u32, words: usize, line: *const u8, length: usize, out: *mut u8, out_length: usize)
             -> usize;
+        #[allow(clippy::too_many_arguments)]
+        pub fn depot_write_frame(
+            book: *const u32,
+            words: usize,
+            depot: u32,
+            shelf: u32,
+            from: u32,
+            count: u32,
+            serial: u16,
+            frame: *mut u8,
+            room: usize,
+            out: *mut u32,
+            out_count: usize,
+        ) -> u32;
+        #[allow(clippy::too_many_arguments)]
+        pub fn depot_read_frame(
+            book: *const u32,
+            words: usize,
+            depot: u32,
+            shelf: u32,
+            from: u32,
+            expected: u16,
+            frame: *const u8,
+            length: usize,
+            messages: *mut u32,
+            room: usize,
+            out: *mut u32,
+            out_count: usize,
+        ) -> u32;
         pub fn depot_audit(history: *const u32, words: usize) -> u32;
         pub fn depot_is_date(year: u32, month: u32, day: u32) -> u32;
         pub fn depot_day_number(year: u32, month: u32, day: u32, out: *mut u32, out_count: usize) -> u32;
@@ -98,6 +127,39 @@ pub fn greater(a: &[u32], b: &[u32], depots: u32) -> u32 {
 
 pub fn line(book: &mut [u32], line: &[u8], out: &mut [u8]) -> usize {
     unsafe { library::depot_line(book.as_mut_ptr(), book.len(), line.as_ptr(), line.len(), out.as_mut_ptr(), out.len()) }
+}
+
+#[allow(clippy::too_many_arguments)]
+pub fn write_frame(
+    book: &[u32],
+    depot: u32,
+    shelf: u32,
+    from: u32,
+    count: u32,
+    serial: u16,
+    frame: &mut [u8],
+    out: &mut [u32],
+) -> u32 {
+    let (book, words, bytes, room) = (book.as_ptr(), book.len(), frame.as_mut_ptr(), frame.len());
+    unsafe { library::depot_write_frame(book, words, depot, shelf, from, count, serial, bytes, room, out.as_mut_ptr(), out.len()) }
+}
+
+#[allow(clippy::too_many_arguments)]
+pub fn read_frame(
+    book: &[u32],
+    depot: u32,
+    shelf: u32,
+    from: u32,
+    expected: u16,
+    frame: &[u8],
+    messages: &mut [u32],
+    out: &mut [u32],
+) -> u32 {
+    let (book, words, bytes, length) = (book.as_ptr(), book.len(), frame.as_ptr(), frame.len());
+    let (handed, room) = (messages.as_mut_ptr(), messages.len());
+    unsafe {
+        library::depot_read_frame(book, words, depot, shelf, from, expected, bytes, length, handed, room, out.as_mut_ptr(), out.len())
+    }
 }
 
 pub fn audit(history: &[u32]) -> u32 {

@@ -2,13 +2,15 @@
 //! two books are compared. [`event`] says what an event is, [`generate`] makes lists of them, [`compare`] runs them, [`shrink`]
 //! finds the shortest list that shows a difference, and [`tally`] counts what was reached. [`values`] are those around the
 //! calendar's end. [`damage`] spoils each word of a book in turn, for each call; [`parts`] says what a call looks at. [`slips`]
-//! are registers with one mistake each, to show that it would be found.
+//! are registers with one mistake each, to show that it would be found. [`frames`] does all this for the frames of the radio
+//! link, apart from the rest.
 
 pub mod arguments;
 pub mod books;
 pub mod compare;
 pub mod damage;
 pub mod event;
+pub mod frames;
 pub mod generate;
 pub mod lines;
 pub mod parts;

@@ -30,11 +30,14 @@ fn every_slip_is_found() {
 #[test]
 fn no_slip_no_difference() {
     let mut tally = Tally::default();
-    for seed in 1..=150 {
+    for seed in 1..=800 {
         assert!(replay_list(&Straight, &Slipped(Slip::None), seed, &mut tally).is_ok(), "seed {}", seed);
+        if seed >= 150 && MARKS.iter().all(|(mark, _)| tally.of(*mark) > 0) {
+            return;
+        }
     }
     for (mark, text) in MARKS {
-        assert!(tally.of(*mark) > 0, "150 lists never reach {}", text);
+        assert!(tally.of(*mark) > 0, "800 lists never reach {}", text);
     }
 }
 

@@ -213,13 +213,13 @@ pub fn who_has(book: &[u32], depot: u32, bearing: u32) -> Result<(u32, u32), Ref
 }
 
 /// The counts of a book whose length, counts and homes are fit.
-fn counts(book: &[u32]) -> Result<Counts, Refusal> {
+pub(crate) fn counts(book: &[u32]) -> Result<Counts, Refusal> {
     fit(counts_and_homes(book))?;
     Ok(Counts::of(book))
 }
 
 /// BAD BOOK, unless it is fit.
-fn fit(is: bool) -> Result<(), Refusal> {
+pub(crate) fn fit(is: bool) -> Result<(), Refusal> {
     if is {
         Ok(())
     } else {

@@ -70,12 +70,17 @@ pub(crate) fn messages_are_fit(book: &[u32], n: Counts, shelf: usize, from: usiz
     let (held, taken) = (book[held(link)] as usize, book[taken(link)] as usize);
     (first..held).all(|place| {
         let message = &book[slot(link, place)..][..SLOT];
-        match message[0] {
-            COPY => copy_is_fit(&message[1..], n, shelf, from),
-            HEARTBEAT => place >= taken && message[1] <= END,
-            _ => false,
-        }
+        message_is_fit(message, n, shelf, from) && (place >= taken || message[0] == COPY)
     })
+}
+
+/// A message on a link that is not taken.
+pub(crate) fn message_is_fit(message: &[u32], n: Counts, shelf: usize, from: usize) -> bool {
+    match message[0] {
+        COPY => copy_is_fit(&message[1..], n, shelf, from),
+        HEARTBEAT => message[1] <= END,
+        _ => false,
+    }
 }
 
 /// A link's two counts: at most 16 messages held, no more taken than held.

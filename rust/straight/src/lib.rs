@@ -22,6 +22,7 @@ mod calls;
 mod card;
 mod desk;
 mod fit;
+mod frame;
 pub mod layout;
 mod looks;
 mod order;
@@ -31,8 +32,15 @@ pub use calls::{below, move_crew, read, refresh, setup, take, tick, vector, who_
 pub use card::{grams, is_card};
 pub use desk::{desk, line, LONGEST_LINE};
 pub use fit::{counts_and_homes, is_fit};
+pub use frame::{frame_read, frame_write, BAD_COUNT, BAD_FRAME, GAP, LONGEST_FRAME, MOST_MESSAGES, OLD};
 pub use layout::{Counts, WORDS};
 pub use order::{above, greater};
+
+/// NO ROOM, a number outside the specification's table. In C and in the library an answer with words in it is put into a
+/// buffer. If that is shorter than the answer's room, the call is refused by this number, before every other check, and changes
+/// no word of book or buffer. The calls here hand their answers back and have no buffers, so none of them says it; but
+/// [`frame_write`] and [`frame_read`] do, after every other check.
+pub const NO_ROOM: u32 = 100;
 
 /// The refusals of the specification's table, with their numbers.
 #[derive(Clone, Copy, Debug, PartialEq, Eq)]

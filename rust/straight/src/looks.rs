@@ -9,10 +9,14 @@ pub fn tick(book: &[u32], n: Counts, depot: usize, shelf: usize) -> bool {
     clock_is_fit(book, depot, shelf) && (0..n.depots).all(|to| to == depot || head_is_fit(book, shelf, depot, to))
 }
 
-/// The stamp seen from the sender; the head of the link from there, and of its messages the untaken ones.
+/// The stamp seen from the sender; the link from there, as for a frame.
 pub fn take(book: &[u32], n: Counts, depot: usize, shelf: usize, from: usize) -> bool {
-    seen_is_fit(book, depot, shelf, from)
-        && head_is_fit(book, shelf, from, depot)
+    seen_is_fit(book, depot, shelf, from) && frame(book, n, depot, shelf, from)
+}
+
+/// The head of the link from the sender, and of its messages the untaken ones.
+pub fn frame(book: &[u32], n: Counts, depot: usize, shelf: usize, from: usize) -> bool {
+    head_is_fit(book, shelf, from, depot)
         && messages_are_fit(book, n, shelf, from, depot, book[taken(link(shelf, from, depot))] as usize)
 }
 

@@ -1,0 +1,10 @@
+pub mod MessageLaws
+pub mod EncodeLaws
+pub mod DecodeLaws
+pub mod Theorems
+pub mod StretchLaws
+pub mod PromiseLaws
+pub mod TakenLaws
+pub mod Unique
+pub mod Worked
+pub mod Carried

@@ -1,0 +1,4 @@
+pub mod Frame
+pub mod Promises
+pub mod Stretch
+pub mod Taken
