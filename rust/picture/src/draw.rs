@@ -485,13 +485,13 @@ fn words_of(layers: &mut Layers, plan: &Plan, at: usize, placed: &Placed) {
     layers.text += "</g>\n";
 }
 
-/// The mark of a line in its lane; of one that has no lane, beside its number.
+/// The mark of a line in its lane; of one that has no lane, beside its words.
 fn mark_of(layers: &mut Layers, plan: &Plan, at: usize) {
     let asked = &plan.run.lines[at];
     let (y, r) = (plan.marks[at].0, plan.shape.mark);
     let x = match (asked.place, asked.section) {
         (Some((depot, shelf)), Some(section)) => plan.lanes(section).shelf(depot, shelf),
-        _ => plan.shape.margin + plan.shape.number + 12,
+        _ => plan.words - 12,
     };
     let marks = &mut layers.marks;
     if asked.refused.is_some() || asked.event == Event::Bad {
