@@ -292,7 +292,7 @@ pub fn width(run: &Run, shape: &Shape) -> i32 {
 pub fn svg(run: &Run, asked: &Asked, shape: &Shape, alone: bool) -> String {
     let width = width(run, shape);
     let mut layers = Layers::default();
-    let top = opening(&mut layers, asked, shape, width);
+    let top = opening(&mut layers, run, asked, shape, width);
     let plan = Plan::new(run, asked, shape, top);
     for section in 0..run.sections.len() {
         ground(&mut layers, &plan, section);
@@ -329,7 +329,7 @@ pub fn svg(run: &Run, asked: &Asked, shape: &Shape, alone: bool) -> String {
 }
 
 /// The title and what the marks mean. Says where the rows begin.
-fn opening(layers: &mut Layers, asked: &Asked, shape: &Shape, width: i32) -> i32 {
+fn opening(layers: &mut Layers, run: &Run, asked: &Asked, shape: &Shape, width: i32) -> i32 {
     let mut y = 34;
     let whole = width - 2 * shape.margin;
     for part in wrap(&asked.title, Tone::Main, whole * 8 / 10) {
@@ -340,6 +340,12 @@ fn opening(layers: &mut Layers, asked: &Asked, shape: &Shape, width: i32) -> i32
     for part in wrap(how, Tone::Thin, whole) {
         layers.text += &text(shape.margin + 4, y, "thin", &part);
         y += 20;
+    }
+    if let Some(only) = asked.filter.words(run.lines.len()) {
+        for part in wrap(&only, Tone::Refused, whole) {
+            layers.text += &text(shape.margin + 4, y + 4, "head", &part);
+            y += 24;
+        }
     }
     y += 14;
     let two = whole >= 560;
@@ -407,8 +413,8 @@ fn cross(x: i32, y: i32) -> String {
 /// A hatched bar.
 fn stretch(shape: &Shape, x: i32, top: i32, bottom: i32) -> String {
     format!(
-        "<rect x=\"{}\" y=\"{}\" width=\"14\" height=\"{}\" fill=\"url(#{}-hatch)\" class=\"stretch\"/>\n",
-        x - 7,
+        "<rect x=\"{}\" y=\"{}\" width=\"10\" height=\"{}\" fill=\"url(#{}-hatch)\" class=\"stretch\"/>\n",
+        x - 5,
         top,
         (bottom - top).max(1),
         shape.id
@@ -452,7 +458,8 @@ fn head(layers: &mut Layers, plan: &Plan, section: usize, top: i32) {
     let lanes = plan.lanes(section);
     for depot in (0..lanes.counts.depots).map(Depot) {
         let (x, width) = (lanes.depot(depot), lanes.depot_width());
-        layers.ground += &format!("<rect x=\"{}\" y=\"{}\" width=\"{}\" height=\"50\" class=\"band\"/>\n", x, top, width);
+        // Above the stretches: they go on behind the names.
+        layers.marks += &format!("<rect x=\"{}\" y=\"{}\" width=\"{}\" height=\"50\" class=\"band\"/>\n", x, top, width);
         layers.text += &text(x + width / 2, top + 21, if width < 72 { "head thin-head mid" } else { "head mid" }, &depot.to_string());
         for shelf in (0..lanes.counts.shelves).map(Shelf) {
             layers.text += &text(lanes.shelf(depot, shelf), top + 43, "thin mid", &shelf.0.to_string());
@@ -592,9 +599,9 @@ fn travel(layers: &mut Layers, plan: &Plan, message: &Message) {
 /// The stretch for which a copy was taken but hidden, and the mark where it was shown.
 fn wait(layers: &mut Layers, plan: &Plan, message: &Message, taken: usize, aside: i32) {
     let Some((bearing, _)) = message.copy else { return };
-    let Some((_, end)) = plan.sections[message.section] else { return };
+    let Some((start, end)) = plan.sections[message.section] else { return };
     let x = plan.lanes(message.section).shelf(message.link.to, message.link.shelf) + aside;
-    let top = plan.marks[taken].0;
+    let top = plan.marks[taken].0.max(start);
     let bottom = message.shown.map_or(end, |shown| plan.shown_at(shown));
     let seen = |at: usize| plan.marks[at].1;
     let any = seen(taken) || message.shown.map_or(true, seen) || bottom > top + 34;

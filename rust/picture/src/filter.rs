@@ -23,6 +23,15 @@ impl Filter {
         within && (setup || bearing && depot)
     }
 
+    /// What is shown, in words, of a run of so many lines; nothing if that is all.
+    pub fn words(&self, lines: usize) -> Option<String> {
+        let bearing = self.bearing.map(|bearing| bearing.to_string());
+        let depot = self.depot.map(|depot| depot.to_string());
+        let range = self.lines.map(|(first, last)| format!("lines {} to {}", first, last));
+        let only: Vec<String> = [bearing, depot, range].into_iter().flatten().collect();
+        (!only.is_empty()).then(|| format!("Only {}. The run has {} lines.", only.join(", "), lines))
+    }
+
     /// Whether the message is drawn, if its lines are shown.
     pub fn draws(&self, message: &Message) -> bool {
         let bearing = self.bearing.map_or(true, |bearing| message.copy.is_some_and(|(copied, _)| copied == bearing));

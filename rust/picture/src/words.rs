@@ -92,12 +92,16 @@ pub fn told(run: &Run, line: &Line) -> Vec<(Tone, String)> {
         Event::Bad => Vec::new(),
         _ => vec![(tone, doing(run, line))],
     };
-    for &id in &line.hidden {
-        texts.push((Tone::Hidden, format!("Hidden here: {}", from_line(run, id))));
+    let named = |ids: &[usize]| ids.iter().map(|&id| from_line(run, id)).collect::<Vec<_>>().join(", ");
+    if !line.hidden.is_empty() {
+        texts.push((Tone::Hidden, format!("Hidden here: {}", named(&line.hidden))));
     }
-    for &id in &line.showed {
-        let stays = if run.messages[id].kept { "" } else { ", but a greater one is stored" };
-        texts.push((Tone::Shown, format!("Now shown: {}{}", from_line(run, id), stays)));
+    let (kept, lower): (Vec<usize>, Vec<usize>) = line.showed.iter().partition(|&&id| run.messages[id].kept);
+    if !kept.is_empty() {
+        texts.push((Tone::Shown, format!("Now shown: {}", named(&kept))));
+    }
+    if !lower.is_empty() {
+        texts.push((Tone::Shown, format!("Compared, and a greater one stays: {}", named(&lower))));
     }
     if let Some(number) = line.refused {
         texts.push((Tone::Refused, format!("Refused: {}", refusal(number))));
