@@ -17,14 +17,20 @@ mod auditor;
 pub mod book;
 mod draw;
 pub mod filter;
+mod key;
+mod lettering;
+mod messages;
 mod page;
+mod plan;
 pub mod run;
+mod shapes;
 mod style;
 mod words;
 pub mod xml;
 
 use arguments::{Asked, Form};
-use draw::{svg, DESK, PHONE};
+use draw::svg;
+use plan::{DESK, PHONE};
 use run::Run;
 
 /// The picture that was asked for.

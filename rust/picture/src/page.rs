@@ -1,7 +1,8 @@
 //! The whole page around a picture.
 
 use crate::arguments::Asked;
-use crate::draw::{svg, width, DESK, PHONE};
+use crate::draw::svg;
+use crate::plan::{width, DESK, PHONE};
 use crate::run::Run;
 use crate::xml::escape;
 
