@@ -34,9 +34,9 @@ const KEY: [(Sign, &str); 10] = [
 
 /// The signs that the picture has.
 pub fn signs(run: &Run, asked: &Asked) -> Vec<(Sign, &'static str)> {
-    let lines = || run.lines.iter().enumerate().filter(|(at, _)| asked.filter.shows(run, *at)).map(|(_, line)| line);
+    let lines = || run.lines.iter().enumerate().filter(move |(at, _)| asked.filter.shows(run, *at)).map(|(_, line)| line);
     let done = |of: fn(&Event) -> bool| lines().any(|line| line.refused.is_none() && of(&line.event));
-    let took = || lines().filter_map(|line| line.took).map(|id| &run.messages[id]);
+    let took = || lines().filter_map(|line| line.took).map(move |id| &run.messages[id]);
     let showed = |kept: bool| lines().any(|line| line.showed.iter().any(|&id| run.messages[id].kept == kept));
     let waits = |message: &Message| {
         message.copy.is_some() && message.taken.is_none() && asked.filter.draws(message) && asked.filter.shows(run, message.sent)

@@ -13,7 +13,7 @@ pub fn sheet(id: &str) -> String {
     format!("{}{}@media (prefers-color-scheme:dark){{\n{}}}\n", always, light, dark)
 }
 
-const RULES: [(&str, &str); 23] = [
+const RULES: [(&str, &str); 22] = [
     ("text", "font:17px system-ui,'Segoe UI',Roboto,Helvetica,Arial,'DejaVu Sans',sans-serif"),
     (".big", "font-size:21px;font-weight:700"),
     (".head", "font-weight:700"),
@@ -36,7 +36,6 @@ const RULES: [(&str, &str); 23] = [
     (".lacks", "stroke-width:2;stroke-dasharray:3 3"),
     (".read", "stroke-width:2.5"),
     (".cross", "stroke-width:4;stroke-linecap:round"),
-    (".fresh", "stroke-width:2.5;fill:none"),
 ];
 
 /// Selector, colours by light, colours by dark.
@@ -64,7 +63,7 @@ const COLOURS: [(&str, &str, &str); 24] = [
     (".green", "fill:#0a5a25", "fill:#7ee2a0"),
     (".lower,.lacks", "fill:#ffffff;stroke:#0a5a25", "fill:#12161b;stroke:#7ee2a0"),
     (".read", "fill:#ffffff;stroke:#15191e", "fill:#12161b;stroke:#f2f4f7"),
-    (".cross,.fresh", "stroke:#a0140a", "stroke:#ffa198"),
+    (".cross", "stroke:#a0140a", "stroke:#ffa198"),
 ];
 
 #[cfg(test)]

@@ -16,11 +16,15 @@ impl Random {
     }
 }
 
-/// So many lines after a setup: calls with good numbers and some that are not, and lines that are none.
+/// So many lines, with counts at random.
 fn lines(seed: u64, count: usize) -> Vec<u8> {
     let mut random = Random(seed);
-    let (depots, shelves) = (1 + random.below(4), 1 + random.below(4));
-    let (bearings, crews) = (1 + random.below(12), 1 + random.below(6));
+    let counts = [4, 4, 12, 6].map(|most| 1 + random.below(most));
+    lines_of(random, count, counts)
+}
+
+/// A setup, and after it calls with good numbers and some that are not, and lines that are none.
+fn lines_of(mut random: Random, count: usize, [depots, shelves, bearings, crews]: [u64; 4]) -> Vec<u8> {
     let homes: Vec<String> = (0..crews).map(|_| random.below(depots).to_string()).collect();
     let mut text = format!("S {} {} {} {} {}\n", depots, shelves, bearings, crews, homes.join(" "));
     for _ in 1..count {
@@ -56,7 +60,7 @@ fn as_many_marks_as_events() {
             assert_eq!(xml::check(&svg), Ok(()));
             let marks = |mark: &str| svg.matches(mark).count();
             let done = |of: fn(&Event) -> bool| run.lines.iter().filter(|line| line.refused.is_none() && of(&line.event)).count();
-            let refused = run.lines.iter().filter(|line| line.refused.is_some()).count();
+            let refused = run.lines.iter().filter(|line| line.refused.is_some() || line.event == Event::Bad).count();
             let copies = || run.messages.iter().filter(|message| message.copy.is_some());
             let taken = copies().filter(|message| message.taken.is_some()).count();
             let shown = copies().filter(|message| message.shown.is_some()).count();
@@ -104,12 +108,12 @@ fn any_bytes_give_a_page() {
         assert_eq!(run.lines.len(), picture::run::lines(input).len());
     }
     for _ in 0..200 {
-        let bytes: Vec<u8> = (0..random.below(600)).map(|_| b"SRWKTF 0123\n<&\"\xff\x00"[random.below(18) as usize]).collect();
-        let input = [&lines(random.below(1_000), 20)[..], &bytes].concat();
+        let bytes: Vec<u8> = (0..random.below(600)).map(|_| b"SRWKTF 0123\n<&\"\xff\x00"[random.below(17) as usize]).collect();
+        let input = [&lines(random.below(1_000), 20)[..], &bytes[..]].concat();
         assert_eq!(xml::check(&picture::picture(&run(&input), &Asked::default())), Ok(()));
     }
     // A second setup, with other counts, and lines before the first.
-    let twice = [b"R 0 0\n", &lines(1, 60)[..], &lines(2, 60), &lines(3, 60)].concat();
+    let twice = [&b"R 0 0\n"[..], &lines(1, 60)[..], &lines(2, 60)[..], &lines(3, 60)[..]].concat();
     let run = run(&twice);
     assert_eq!(run.sections.len(), 3);
     assert_eq!(run.lines[0].refused, Some(1));
@@ -143,8 +147,7 @@ fn a_bad_line_and_an_unknown_one_are_shown_as_such() {
 
 #[test]
 fn a_filter_leaves_what_it_names() {
-    let input = lines(5, 5_000);
-    let run = run(&input);
+    let run = run(&lines_of(Random(5), 5_000, [3, 2, 12, 6]));
     let rows = |filter: Filter| {
         let page = picture::picture(&run, &Asked { form: Form::Svg, filter, ..Asked::default() });
         assert_eq!(xml::check(&page), Ok(()));
