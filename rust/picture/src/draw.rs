@@ -102,7 +102,8 @@ fn ground(layers: &mut Layers, plan: &Plan, section: usize) {
     let lanes = plan.lanes(section);
     for depot in (0..lanes.counts.depots).map(Depot) {
         let (x, width, height) = (lanes.depot(depot), lanes.depot_width(), bottom - top);
-        layers.ground += &format!("<rect x=\"{}\" y=\"{}\" width=\"{}\" height=\"{}\" rx=\"8\" class=\"band\"/>\n", x, top, width, height);
+        layers.ground +=
+            &format!("<rect x=\"{}\" y=\"{}\" width=\"{}\" height=\"{}\" rx=\"8\" class=\"band\"/>\n", x, top, width, height);
         for shelf in (0..lanes.counts.shelves).map(Shelf) {
             let x = lanes.shelf(depot, shelf);
             layers.ground += &line(point((x, top + 50)), point((x, bottom)), "life");
@@ -117,11 +118,13 @@ fn row(layers: &mut Layers, plan: &Plan, placed: &Placed) {
         Row::Gap(start, end) => {
             let lines = if end - start == 1 { format!("line {}", end) } else { format!("lines {} to {}", start + 1, end) };
             let y = placed.top + 22;
-            layers.ground += &line(point((plan.shape.margin, placed.top)), point((plan.width - plan.shape.margin, placed.top)), "rule");
+            layers.ground +=
+                &line(point((plan.shape.margin, placed.top)), point((plan.width - plan.shape.margin, placed.top)), "rule");
             layers.text += &text(plan.words, y, "thin", &format!("… {} not shown", lines));
         }
         Row::Line(at) => {
-            layers.ground += &line(point((plan.shape.margin, placed.top)), point((plan.width - plan.shape.margin, placed.top)), "rule");
+            layers.ground +=
+                &line(point((plan.shape.margin, placed.top)), point((plan.width - plan.shape.margin, placed.top)), "rule");
             words_of(layers, plan, at, placed);
             mark_of(layers, plan, at);
         }
@@ -135,7 +138,8 @@ fn head(layers: &mut Layers, plan: &Plan, section: usize, top: i32) {
         let (x, width) = (lanes.depot(depot), lanes.depot_width());
         // Above the stretches: they go on behind the names.
         layers.marks += &format!("<rect x=\"{}\" y=\"{}\" width=\"{}\" height=\"50\" class=\"band\"/>\n", x, top, width);
-        layers.text += &text(x + width / 2, top + 21, if width < 72 { "head thin-head mid" } else { "head mid" }, &depot.to_string());
+        layers.text +=
+            &text(x + width / 2, top + 21, if width < 72 { "head thin-head mid" } else { "head mid" }, &depot.to_string());
         for shelf in (0..lanes.counts.shelves).map(Shelf) {
             layers.text += &text(lanes.shelf(depot, shelf), top + 43, "thin mid", &shelf.0.to_string());
         }

@@ -38,8 +38,7 @@ pub fn page(run: &Run, asked: &Asked) -> String {
 
 /// Links to every hundredth line shown, and to the end.
 fn ladder(shown: &[usize]) -> String {
-    let links: Vec<String> =
-        shown.iter().step_by(100).map(|at| format!("<a href=\"#d{}\">{}</a>", at + 1, at + 1)).collect();
+    let links: Vec<String> = shown.iter().step_by(100).map(|at| format!("<a href=\"#d{}\">{}</a>", at + 1, at + 1)).collect();
     format!("<p>To line {} <a href=\"#d-end\">to the end</a></p>\n", links.join(" "))
 }
 

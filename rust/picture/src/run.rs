@@ -9,12 +9,35 @@ use crate::book::{home, stored, Link, Stored};
 /// What a line asked for.
 #[derive(Clone, Debug, PartialEq)]
 pub enum Event {
-    Setup { counts: Counts, homes: Vec<Depot> },
-    Read { crew: Crew, bearing: Bearing, answer: Option<(u32, Card)> },
-    Write { crew: Crew, bearing: Bearing, value: u32, card: Card, superseded: bool },
-    Tick { depot: Depot, shelf: Shelf },
-    Take { depot: Depot, shelf: Shelf, from: Depot },
-    Refresh { depot: Depot, shelf: Shelf },
+    Setup {
+        counts: Counts,
+        homes: Vec<Depot>,
+    },
+    Read {
+        crew: Crew,
+        bearing: Bearing,
+        answer: Option<(u32, Card)>,
+    },
+    Write {
+        crew: Crew,
+        bearing: Bearing,
+        value: u32,
+        card: Card,
+        superseded: bool,
+    },
+    Tick {
+        depot: Depot,
+        shelf: Shelf,
+    },
+    Take {
+        depot: Depot,
+        shelf: Shelf,
+        from: Depot,
+    },
+    Refresh {
+        depot: Depot,
+        shelf: Shelf,
+    },
     /// No line of the desk, or of none that is known here.
     Bad,
 }

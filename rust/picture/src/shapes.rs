@@ -38,7 +38,10 @@ pub fn diamond(x: i32, y: i32, r: i32, class: &str) -> String {
 }
 
 pub fn cross(x: i32, y: i32) -> String {
-    let (a, b) = (line(point((x - 8, y - 8)), point((x + 8, y + 8)), "cross"), line(point((x - 8, y + 8)), point((x + 8, y - 8)), "cross"));
+    let (a, b) = (
+        line(point((x - 8, y - 8)), point((x + 8, y + 8)), "cross"),
+        line(point((x - 8, y + 8)), point((x + 8, y - 8)), "cross"),
+    );
     a + &b
 }
 

@@ -164,7 +164,8 @@ fn counted((count, what): (u32, &str)) -> String {
 /// A line of the end: who has the newest version of a bearing, and where it is for the others.
 pub fn held(run: &Run, newest: &Newest) -> String {
     let what = format!("Bearing {}: {}", newest.bearing.0, date(newest.version.value));
-    let lacks: Vec<String> = (0..).zip(&newest.has).filter(|(_, &has)| !has).map(|(x, _)| lacking(run, newest, Depot(x))).collect();
+    let lacks: Vec<String> =
+        (0..).zip(&newest.has).filter(|(_, &has)| !has).map(|(x, _)| lacking(run, newest, Depot(x))).collect();
     if lacks.is_empty() {
         return format!("{}. Everybody has it", what);
     }

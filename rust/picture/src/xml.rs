@@ -106,7 +106,8 @@ fn check_name(name: &str) -> Result<(), String> {
 
 /// Text has entities that are known and only characters that XML has.
 fn check_text(text: &str) -> Result<(), String> {
-    let bad = |char: char| matches!(char, '\u{0}'..='\u{8}' | '\u{b}' | '\u{c}' | '\u{e}'..='\u{1f}' | '\u{fffe}' | '\u{ffff}' | '>');
+    let bad =
+        |char: char| matches!(char, '\u{0}'..='\u{8}' | '\u{b}' | '\u{c}' | '\u{e}'..='\u{1f}' | '\u{fffe}' | '\u{ffff}' | '>');
     if let Some(char) = text.chars().find(|&char| bad(char)) {
         return Err(format!("{:?} may not stand there", char));
     }

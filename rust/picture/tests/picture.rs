@@ -165,8 +165,8 @@ fn a_filter_leaves_what_it_names() {
 #[test]
 fn the_checker_refuses_what_is_not_well_formed() {
     for bad in [
-        "", "<a>", "<a></b>", "<a/><b/>", "<a>&</a>", "<a>&nbsp;</a>", "<a b=c/>", "<a b=\"<\"/>", "<a b=\"1\" b=\"2\"/>", "x<a/>",
-        "<a/>x", "<a>\u{1}</a>", "<a><b></a></b>", "<1/>", "<a", "<a b=\"1\"c=\"2\"/>", "<a>></a>",
+        "", "<a>", "<a></b>", "<a/><b/>", "<a>&</a>", "<a>&nbsp;</a>", "<a b=c/>", "<a b=\"<\"/>", "<a b=\"1\" b=\"2\"/>",
+        "x<a/>", "<a/>x", "<a>\u{1}</a>", "<a><b></a></b>", "<1/>", "<a", "<a b=\"1\"c=\"2\"/>", "<a>></a>",
     ] {
         assert!(xml::check(bad).is_err(), "{}", bad);
     }
