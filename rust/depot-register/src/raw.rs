@@ -141,9 +141,7 @@ pub fn write_frame(
     out: &mut [u32],
 ) -> u32 {
     let (book, words, bytes, room) = (book.as_ptr(), book.len(), frame.as_mut_ptr(), frame.len());
-    unsafe {
-        library::depot_write_frame(book, words, depot, shelf, from, count, serial, bytes, room, out.as_mut_ptr(), out.len())
-    }
+    unsafe { library::depot_write_frame(book, words, depot, shelf, from, count, serial, bytes, room, out.as_mut_ptr(), out.len()) }
 }
 
 #[allow(clippy::too_many_arguments)]
@@ -160,20 +158,7 @@ pub fn read_frame(
     let (book, words, bytes, length) = (book.as_ptr(), book.len(), frame.as_ptr(), frame.len());
     let (handed, room) = (messages.as_mut_ptr(), messages.len());
     unsafe {
-        library::depot_read_frame(
-            book,
-            words,
-            depot,
-            shelf,
-            from,
-            expected,
-            bytes,
-            length,
-            handed,
-            room,
-            out.as_mut_ptr(),
-            out.len(),
-        )
+        library::depot_read_frame(book, words, depot, shelf, from, expected, bytes, length, handed, room, out.as_mut_ptr(), out.len())
     }
 }
 

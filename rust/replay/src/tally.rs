@@ -312,11 +312,7 @@ impl Tally {
         }
         let call = matches!(
             step.event,
-            Event::Read { .. }
-                | Event::Write { .. }
-                | Event::Tick { .. }
-                | Event::Take { .. }
-                | Event::Refresh { .. }
+            Event::Read { .. } | Event::Write { .. } | Event::Tick { .. } | Event::Take { .. } | Event::Refresh { .. }
                 | Event::Move { .. }
         );
         if call && !self.fit {

@@ -36,20 +36,8 @@ pub fn day(random: &mut Random) -> u32 {
 pub const LENGTHS: [u32; 8] = [1, 0x007F_FFFF, 0x0080_0000, 0x3DCC_CCCD, 0x3F80_0000, 0x4250_0000, 0x44F9_FFFF, 0x44FA_0000];
 /// Floats that are no length: 0, negative 0, negative lengths, the float after 2,000, the greatest, infinities, and NaNs.
 pub const NO_LENGTHS: [u32; 14] = [
-    0,
-    0x8000_0000,
-    0x8000_0001,
-    0xBF80_0000,
-    0xC4FA_0000,
-    0x44FA_0001,
-    0x44FA_8000,
-    0x7F7F_FFFF,
-    0x7F80_0000,
-    0xFF80_0000,
-    0x7F80_0001,
-    0x7FC0_0000,
-    0xFFC0_0000,
-    u32::MAX,
+    0, 0x8000_0000, 0x8000_0001, 0xBF80_0000, 0xC4FA_0000, 0x44FA_0001, 0x44FA_8000, 0x7F7F_FFFF, 0x7F80_0000, 0xFF80_0000, 0x7F80_0001, 0x7FC0_0000,
+    0xFFC0_0000, u32::MAX,
 ];
 
 /// A card to write, mostly one that can be.

@@ -114,16 +114,8 @@ impl Frames for Library {
     fn read(&self, book: &[u32], link: Link, expected: u16, frame: &[u8], out: &mut [u32]) -> Result<usize, u32> {
         let (mut lent, mut sent, mut handed, mut told) =
             (self.words(book), self.bytes(frame), self.words(out), self.words(&[UNTOLD]));
-        let number = raw::read_frame(
-            lent.words(),
-            link.depot,
-            link.shelf,
-            link.from,
-            expected,
-            sent.bytes(),
-            handed.words(),
-            told.words(),
-        );
+        let number =
+            raw::read_frame(lent.words(), link.depot, link.shelf, link.from, expected, sent.bytes(), handed.words(), told.words());
         assert_eq!(lent.words(), book);
         assert_eq!(sent.bytes(), frame);
         out.copy_from_slice(handed.words());
@@ -182,21 +174,18 @@ fn every_change_and_every_cut() {
         let library = Library { behind: seed % 2 == 0 };
         let pair = Pair::new(seed, &Straight, &library, book);
         let serial = any_serial(random);
-        let written =
-            |count| pair.write(link, count, serial, LONGEST_FRAME).unwrap_or_else(|difference| panic!("{}", difference));
+        let written = |count| pair.write(link, count, serial, LONGEST_FRAME).unwrap_or_else(|difference| panic!("{}", difference));
         let Some(frame) = (1..=3).rev().find_map(|count| written(count).ok()) else { continue };
         let mut bytes = frame.clone();
         for at in 0..frame.len() {
             for other in 0..=255 {
                 bytes[at] = other;
-                let heard =
-                    pair.read(link, serial, &bytes, 10 * MOST_MESSAGES).unwrap_or_else(|difference| panic!("{}", difference));
+                let heard = pair.read(link, serial, &bytes, 10 * MOST_MESSAGES).unwrap_or_else(|difference| panic!("{}", difference));
                 changed += 1;
                 read += u32::from(heard.is_ok() && other != frame[at]);
             }
             bytes[at] = frame[at];
-            let cut =
-                pair.read(link, serial, &frame[..at], 10 * MOST_MESSAGES).unwrap_or_else(|difference| panic!("{}", difference));
+            let cut = pair.read(link, serial, &frame[..at], 10 * MOST_MESSAGES).unwrap_or_else(|difference| panic!("{}", difference));
             assert_eq!(cut, Err(BAD_FRAME), "cut to {} bytes", at);
         }
     }
