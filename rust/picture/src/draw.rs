@@ -181,7 +181,8 @@ fn mark_of(layers: &mut Layers, plan: &Plan, at: usize) {
     };
     let marks = &mut layers.marks;
     if asked.refused.is_some() || asked.event == Event::Bad {
-        *marks += &format!("<g class=\"no\" data-line=\"{}\">\n{}</g>\n", at + 1, cross(x, y));
+        let clear = circle(x, y, 11, "paper");
+        *marks += &format!("<g class=\"no\" data-line=\"{}\">\n{}{}</g>\n", at + 1, clear, cross(x, y));
         return;
     }
     match &asked.event {
@@ -222,8 +223,7 @@ fn ending(layers: &mut Layers, plan: &Plan) -> i32 {
     let section = plan.run.sections.len().checked_sub(1);
     let rows: Vec<_> = newest.collect();
     if let (Some(section), false) = (section, rows.is_empty()) {
-        layers.text += &text(plan.shape.margin + 4, y + 34, "head", "At the end: the newest of each bearing, and who has it");
-        y += 44;
+        y = heading(layers, plan, y + 6, "At the end: the newest of each bearing, and who has it");
         let lanes = plan.lanes(section);
         for newest in rows {
             let texts = broken(&[(Tone::Main, words::held(plan.run, newest))], plan.shape.words);
@@ -240,12 +240,17 @@ fn ending(layers: &mut Layers, plan: &Plan) -> i32 {
         }
     }
     if let Some(word) = &plan.run.word {
-        for part in wrap(&format!("The auditor: {}", word), Tone::Main, plan.width - 2 * plan.shape.margin) {
-            layers.text += &text(plan.shape.margin + 4, y + 30, "head", &part);
-            y += 26;
-        }
-        y += 10;
+        y = heading(layers, plan, y, &format!("The auditor: {}", word));
     }
     layers.text += "</g>\n";
     y
+}
+
+/// A sentence over the whole width. Says where it ends.
+fn heading(layers: &mut Layers, plan: &Plan, top: i32, words: &str) -> i32 {
+    let parts = wrap(words, Tone::Refused, plan.width - 2 * plan.shape.margin - 8);
+    for (i, part) in (0..).zip(&parts) {
+        layers.text += &text(plan.shape.margin + 4, top + 28 + 24 * i, "head", part);
+    }
+    top + 16 + 24 * parts.len() as i32
 }
