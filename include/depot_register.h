@@ -124,10 +124,10 @@ size_t depot_line(uint32_t *book, size_t words, const uint8_t *line, size_t leng
 
 /* Frames for the radio link: docs/FRAMES.md has every byte. The book is only read. Besides the numbers above: */
 enum depot_frame_answer {
-    DEPOT_BAD_COUNT = 101, /* the count is 0, over 16, or over what stands untaken */
-    DEPOT_BAD_FRAME = 102, /* the bytes are no frame of this link */
-    DEPOT_OLD = 103,       /* the serial is 1 to 32,767 behind the expected one */
-    DEPOT_GAP = 104        /* the serial is any other but the expected one */
+    DEPOT_BAD_FRAME_COUNT = 101, /* the count is 0, over 16, or over what stands untaken */
+    DEPOT_BAD_FRAME = 102,       /* the bytes are no frame of this link */
+    DEPOT_OLD = 103,             /* the serial is 1 to 32,767 behind the expected one */
+    DEPOT_GAP = 104              /* the serial is any other but the expected one */
 };
 
 /* The `count` oldest untaken messages of the link of a shelf from depot `from` to `depot`, as the frame with this serial.

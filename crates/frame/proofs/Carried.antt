@@ -86,7 +86,8 @@ part-words l a n b = below-take n (drop a l) (record { at = λ i. rw (getD-drop 
 
 pub record Carried (l : List ℕ) (d s from count serial : ℕ) : Type 0 where
   -- the box that expects the frame is handed the messages
-  pub accepted : decodeFrame (routeIn l d s from) serial (encodeFrame (routeIn l d s from) serial count (untaken l d s from)) ≡ accepted count (meantBody (routeIn l d s from) count (untaken l d s from))
+  pub accepted : decodeFrame (routeIn l d s from) serial (encodeFrame (routeIn l d s from) serial count (untaken l d s from)) ≡ accepted count
+      (meantBody (routeIn l d s from) count (untaken l d s from))
   -- and taking them makes of it what as many takes make of the link
   pub taken :
       takesAll (routeIn l d s from) count (meantBody (routeIn l d s from) count (untaken l d s from)) (standingIn (routeIn l d s from) l)
@@ -98,7 +99,8 @@ carried l d s from count serial room b n h =
     let w = writer-open l d s from count room h in
     let ready = route-ready l d s from (w .base) (w .depot) (w .sender) (w .shelf) in
     let q : ℕ = linkOf s from d in
-    let fits : (i : ℕ) → i < count → messageFit (countsOf l) s from (slot l q (taken l q + i)) ≡ true = λ i k. every-at (held l q - taken l q) _ (and-right (headFit l q) _ (w .link)) i (omega (arith, w .waits)) in
+    let fits : (i : ℕ) → i < count → messageFit (countsOf l) s from (slot l q (taken l q + i)) ≡ true = λ i k. every-at (held l q - taken l q) _
+    (and-right (headFit l q) _ (w .link)) i (omega (arith, w .waits)) in
     record {
       accepted = reads-back (routeIn l d s from) serial count (untaken l d s from) (ready-known _ ready) n
           (record { some = w .some; few = w .few; fit = fits; words = λ i k. part-words l (slotAt q (taken l q + i)) 10 b });

@@ -125,7 +125,8 @@ module _ (r : Route) (known : Known r) (f : List ℕ) (b : Below byteLimit f) (w
   all-is =
       runs-found f (startIn (r .counts .depots) f) (λ i. messageBytes (r .counts .depots) (readAt i)) (countIn f)
       (λ i h.
-      let size : sizeOf (r .counts .depots) (getD f (startIn (r .counts .depots) f i) 0) ≡ length (messageBytes (r .counts .depots) (readAt i)) = ap (sizeOf (r .counts .depots)) (sym (kind-read r f _)) ∙ sym (message-long (r .counts .depots) (readAt i)) in (
+      let size : sizeOf (r .counts .depots) (getD f (startIn (r .counts .depots) f i) 0) ≡ length (messageBytes (r .counts .depots) (readAt i)) = ap
+      (sizeOf (r .counts .depots)) (sym (kind-read r f _)) ∙ sym (message-long (r .counts .depots) (readAt i)) in (
         ap (λ (k : ℕ). startIn (r .counts .depots) f i + k) size,
         ap (part f (startIn (r .counts .depots) f i)) (sym size) ∙ only-message r f _ b (w .at i h .there) (w .at i h .ends) (known .depots) (kind-is i h),
       ))

@@ -164,7 +164,8 @@ module _ (r : Route) (f : List ℕ) (at : ℕ) (m : List ℕ) (s : Stands f at (
   reads-copy b h =
       let t : Stands f (at + 1) (getD m 1 0 % 256 ∷ joined (3 + r .counts .depots) (λ i. wordBytes (sentWord m i))) = behind-first f at _ _ (copy-stands h) in
       let two : at + 1 + 1 ≡ at + 2 = omega arith in
-      let u : Stands f (at + 2) (joined (3 + r .counts .depots) (λ i. wordBytes (sentWord m i))) = subst (λ (k : ℕ). Stands f k (joined (3 + r .counts .depots) (λ i. wordBytes (sentWord m i)))) two (behind-first f (at + 1) _ _ t) in
+      let u : Stands f (at + 2) (joined (3 + r .counts .depots) (λ i. wordBytes (sentWord m i))) = subst
+      (λ (k : ℕ). Stands f k (joined (3 + r .counts .depots) (λ i. wordBytes (sentWord m i)))) two (behind-first f (at + 1) _ _ t) in
       let bearing : getD f (at + 1) 0 ≡ getD m 1 0 = first-byte f (at + 1) _ _ t ∙ omega (arith, h .bearing) in
       not-beat _ _ [] (kind-copy h ∙ h .kind)
       ∙ rw (

@@ -98,7 +98,8 @@ module _ (r : Route) (ready : Ready r) (b : List ℕ) (full : length b ≡ 16384
 
   copies-took :
       gathered (taken (takeIn r b) (linkIn r)) (λ i. meant r (slot (takeIn r b) (linkIn r) i))
-      ≡ pick (eqb (kindOf next) beatKind) (gathered (taken b (linkIn r)) (λ i. meant r (slot b (linkIn r) i))) (gathered (taken b (linkIn r)) (λ i. meant r (slot b (linkIn r) i)) ++ (meant r next ∷ []))
+      ≡ pick (eqb (kindOf next) beatKind) (gathered (taken b (linkIn r)) (λ i. meant r (slot b (linkIn r) i)))
+      (gathered (taken b (linkIn r)) (λ i. meant r (slot b (linkIn r) i)) ++ (meant r next ∷ []))
   unfolding takenSlots next
   copies-took =
       gathered-slots (meant r) (takeIn r b) (linkIn r) (taken (takeIn r b) (linkIn r))
@@ -106,14 +107,17 @@ module _ (r : Route) (ready : Ready r) (b : List ℕ) (full : length b ≡ 16384
       ∙ map-pick (meant r) _ _ _
       ∙ ap₂ (λ (x y : List (List ℕ)). pick (eqb (kindOf (slot b (linkIn r) (taken b (linkIn r)))) beatKind) x y)
       (sym (gathered-slots (meant r) b (linkIn r) (taken b (linkIn r))))
-      (map-append (meant r) (slots b (linkIn r) 0 (taken b (linkIn r))) _ ∙ ap (λ (x : List (List ℕ)). x ++ (meant r (slot b (linkIn r) (taken b (linkIn r))) ∷ [])) (sym (gathered-slots (meant r) b (linkIn r) (taken b (linkIn r)))))
+      (map-append (meant r) (slots b (linkIn r) 0 (taken b (linkIn r))) _ ∙ ap
+      (λ (x : List (List ℕ)). x ++ (meant r (slot b (linkIn r) (taken b (linkIn r))) ∷ [])) (sym (gathered-slots (meant r) b (linkIn r) (taken b (linkIn r)))))
 
   -- it does what taking the message does
   pub take-stands : standingIn r (takeIn r b) ≡ takes r (meant r (slot b (linkIn r) (taken b (linkIn r)))) (standingIn r b)
   unfolding standingIn takes next
   take-stands =
-      let stamp : seen (takeIn r b) (r .to .0) (r .shelf .0) (r .from .0) ≡ stampFrom (r .from .0) (meant r next) = took-seen (r .to .0) (r .shelf .0) (r .from .0) b hd (ready .shelf) hf full room k ∙ sym (meant-stamp r next ready) in
-      let copies = copies-took ∙ ap (λ (x : ℕ). pick (eqb x beatKind) (gathered (taken b (linkIn r)) (λ i. meant r (slot b (linkIn r) i))) (gathered (taken b (linkIn r)) (λ i. meant r (slot b (linkIn r) i)) ++ (meant r next ∷ []))) (sym (meant-kind r next)) in
+      let stamp : seen (takeIn r b) (r .to .0) (r .shelf .0) (r .from .0) ≡ stampFrom (r .from .0) (meant r next) = took-seen (r .to .0) (r .shelf .0)
+      (r .from .0) b hd (ready .shelf) hf full room k ∙ sym (meant-stamp r next ready) in
+      let copies = copies-took ∙ ap (λ (x : ℕ). pick (eqb x beatKind) (gathered (taken b (linkIn r)) (λ i. meant r (slot b (linkIn r) i)))
+      (gathered (taken b (linkIn r)) (λ i. meant r (slot b (linkIn r) i)) ++ (meant r next ∷ []))) (sym (meant-kind r next)) in
       λ i. record { stamp = stamp i; copies = copies i }
 
 -- ---- take after take
@@ -133,8 +137,10 @@ module _ (r : Route) (ready : Ready r) (l : List ℕ) (n : ℕ) where
       let f4 : r .from .0 < 4 = hf r ready b (a .full) (a .room) k in
       let w = took-waiting (r .to .0) (r .shelf .0) (r .from .0) b d4 (ready .shelf) f4 (a .full) (a .room) k in
       let m : n - i ≡ suc (n - suc i) = omega arith in
-      let v : slots l (linkIn r) (taken l (linkIn r) + i) (n - i) ≡ slot l (linkIn r) (taken l (linkIn r) + i) ∷ slots l (linkIn r) (taken l (linkIn r) + i + 1) (n - suc i) = ap (slots l (linkIn r) (taken l (linkIn r) + i)) m ∙ slots-first l (linkIn r) (taken l (linkIn r) + i) (n - suc i) in
-      let both : slot b (linkIn r) (taken b (linkIn r)) ∷ untakenSlots (takeIn r b) (linkIn r) ≡ slot l (linkIn r) (taken l (linkIn r) + i) ∷ slots l (linkIn r) (taken l (linkIn r) + i + 1) (n - suc i) = sym w ∙ a .waiting ∙ v in
+      let v : slots l (linkIn r) (taken l (linkIn r) + i) (n - i) ≡ slot l (linkIn r) (taken l (linkIn r) + i) ∷ slots l (linkIn r) (taken l (linkIn r) + i + 1)
+      (n - suc i) = ap (slots l (linkIn r) (taken l (linkIn r) + i)) m ∙ slots-first l (linkIn r) (taken l (linkIn r) + i) (n - suc i) in
+      let both : slot b (linkIn r) (taken b (linkIn r)) ∷ untakenSlots (takeIn r b) (linkIn r) ≡ slot l (linkIn r) (taken l (linkIn r) + i) ∷ slots l (linkIn r)
+      (taken l (linkIn r) + i + 1) (n - suc i) = sym w ∙ a .waiting ∙ v in
       let first : slot b (linkIn r) (taken b (linkIn r)) ≡ slot l (linkIn r) (taken l (linkIn r) + i) = cc in
       let rest : untakenSlots (takeIn r b) (linkIn r) ≡ slots l (linkIn r) (taken l (linkIn r) + i + 1) (n - suc i) = cc in
       let e : taken l (linkIn r) + i + 1 ≡ taken l (linkIn r) + suc i = omega arith in

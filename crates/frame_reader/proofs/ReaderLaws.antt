@@ -75,7 +75,8 @@ module _ (r : Route) (f : List ℕ) (i at : ℕ) where
       right-strange h =
           let no-beat : (kindOf (messageAt r f at) ≡ beatKind → ⊥) = λ e. omega (arith, size-beat (r .counts .depots) (getD f at 0) (sym (kind-read r f at) ∙ e)) in
           let no-copy : (kindOf (messageAt r f at) ≡ copyKind → ⊥) = λ e. omega (arith, size-copy (r .counts .depots) (getD f at 0) (sym (kind-read r f at) ∙ e)) in
-          sym (within ∙ ap (λ (x : Bool). leb (at + sizeOf (r .counts .depots) (getD f at 0)) (length f) && x) (sym (message-none (r .counts) (r .shelf .0) (r .from .0) (messageAt r f at) no-beat no-copy)) ∙ and-false (leb (at + sizeOf (r .counts .depots) (getD f at 0)) (length f)))
+          sym (within ∙ ap (λ (x : Bool). leb (at + sizeOf (r .counts .depots) (getD f at 0)) (length f) && x)
+          (sym (message-none (r .counts) (r .shelf .0) (r .from .0) (messageAt r f at) no-beat no-copy)) ∙ and-false (leb (at + sizeOf (r .counts .depots) (getD f at 0)) (length f)))
 
       pub right-cut : length f < at + sizeOf (r .counts .depots) (getD f at 0) → false ≡ messageRight r f i at
       right-cut h = sym (within ∙ and-stop _ (lt-leb _ _ h))
@@ -119,7 +120,8 @@ there-at r f i {at} ready h l e =
     let w = formed-says r f h .at i l in
     rw e (record { ready = ready; begins = w .there; known = some (fit-kind r _ (ready-known r ready .bearings) (w .fit)); ends = w .ends })
   where
-    some : mathlib.Core.Logic._⊎_ (IsBeat (messageAt r f (startIn (r .counts .depots) f i))) (IsCopied (messageAt r f (startIn (r .counts .depots) f i))) → 0 < sizeOf (r .counts .depots) (getD f (startIn (r .counts .depots) f i) 0)
+    some : mathlib.Core.Logic._⊎_ (IsBeat (messageAt r f (startIn (r .counts .depots) f i))) (IsCopied (messageAt r f (startIn (r .counts .depots) f i))) →
+        0 < sizeOf (r .counts .depots) (getD f (startIn (r .counts .depots) f i) 0)
     some =
         ⊎-elim
         (λ (b : IsBeat (messageAt r f (startIn (r .counts .depots) f i))). omega (arith, size-beat (r .counts .depots) _ (sym (kind-read r f (startIn (r .counts .depots) f i)) ∙ b .kind)))

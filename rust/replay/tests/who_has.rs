@@ -95,6 +95,8 @@ fn every_word_changed() {
         let at = stored(depot, 4);
         book[at] = 4;
         book[at + 1] = 20;
+        book[at + 2] = 1f32.to_bits();
+        book[at + 3] = 1f32.to_bits();
         book[at + VECTOR..at + VECTOR + 3].copy_from_slice(vector);
     }
     let mut reached = Reached::default();

@@ -33,8 +33,11 @@ there : (c : tie.In-loop Inv-loop μ-loop) → let args = c .before .before .bef
 there c = let pre = c .before .before .before .before .before .pre in there-at _ _ (c .before .loop .i) (pre .0) (pre .1) (omega (arith, c .loop-test .taken, pre .2)) (c .before .loop .inv .1)
 
 size-is :
-    (c : tie.After-size-of Inv-loop μ-loop) → let args = c .before .before .before .before .before .before .before .before .before .before .before .before .before .before .args in c .size-of .result ≡ sizeOf (args .way .counts .depots) (getD (now (args .f)) (c .before .before .before .before .before .before .before .before .before .before .loop .at) 0)
-size-is c = c .size-of .ensures ∙ ap (sizeOf (c .before .before .before .before .before .before .before .before .before .before .before .before .before .before .args .way .counts .depots)) (c .before .word-of-byte .ensures)
+    (c : tie.After-size-of Inv-loop μ-loop) →
+    let args = c .before .before .before .before .before .before .before .before .before .before .before .before .before .before .args in c .size-of .result
+    ≡ sizeOf (args .way .counts .depots) (getD (now (args .f)) (c .before .before .before .before .before .before .before .before .before .before .loop .at) 0)
+size-is c = c .size-of .ensures ∙ ap
+    (sizeOf (c .before .before .before .before .before .before .before .before .before .before .before .before .before .before .args .way .counts .depots)) (c .before .word-of-byte .ensures)
 
 loop-holds : tie.Need-loop-holds Inv-loop μ-loop
 loop-holds c = (search needs, start-none _ _ (c .before .before .before .pre .2), refl, put-none _ 0 _)
@@ -45,7 +48,14 @@ message-at-requires c κs = there c
 write-words-requires : tie.Need-write-words-requires Inv-loop μ-loop
 write-words-requires c κs =
     let loop = c .before .before .before .before .loop in
-    omega (arith, loop .inv .2, c .before .before .before .loop-test .taken, c .before .before .before .before .before .before .before .before .pre .3, ap length (c .before .before .message-at .ensures) ∙ message-ten (c .before .before .before .before .before .before .before .before .args .way) (now (c .before .before .before .before .before .before .before .before .args .f)) (loop .at))
+    omega (
+      arith,
+      loop .inv .2,
+      c .before .before .before .loop-test .taken,
+      c .before .before .before .before .before .before .before .before .pre .3,
+      ap length (c .before .before .message-at .ensures)
+          ∙ message-ten (c .before .before .before .before .before .before .before .before .args .way) (now (c .before .before .before .before .before .before .before .before .args .f)) (loop .at),
+    )
 
 shared-slice-read-word-of-byte : tie.Need-shared-slice-read-word-of-byte Inv-loop μ-loop
 shared-slice-read-word-of-byte c = omega (arith, there (c .before .before .before .before .before .before .before) .begins)
@@ -62,7 +72,8 @@ loop-again c =
       search needs,
       start-more _ _ _ (loop .inv .1) (size-is c),
       ap length (c .before .before .before .before .before .write-words .ensures) ∙ length-put _ _ _ ∙ loop .inv .2,
-      put-run _ 0 (loop .i) G (loop .inv .3) ten (c .before .before .before .before .before .before .before .before .message-at .ensures ∙ ap (messageAt (args .way) (now (args .f))) (loop .inv .1)) (c .before .before .before .before .before .write-words .ensures),
+      put-run _ 0 (loop .i) G (loop .inv .3) ten (c .before .before .before .before .before .before .before .before .message-at .ensures ∙ ap
+          (messageAt (args .way) (now (args .f))) (loop .inv .1)) (c .before .before .before .before .before .write-words .ensures),
     )
 
 returns : tie.Need-returns Inv-loop μ-loop

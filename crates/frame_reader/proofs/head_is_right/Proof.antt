@@ -18,16 +18,20 @@ returns-2 : tie.Need-returns-2
 returns-2 c = head-other _ _ (c .before .before .before .if1 .left) (λ e. c .if2 .taken (e ∙ sym (c .before .whom-of .ensures)))
 
 returns-3 : tie.Need-returns-3
-returns-3 c = head-none _ _ (c .before .before .before .before .before .before .if1 .left) (c .before .before .before .if2 .left ∙ c .before .before .before .before .whom-of .ensures) (sym (c .before .wide-byte .ensures) ∙ c .if3 .taken)
+returns-3 c = head-none _ _ (c .before .before .before .before .before .before .if1 .left)
+    (c .before .before .before .if2 .left ∙ c .before .before .before .before .whom-of .ensures) (sym (c .before .wide-byte .ensures) ∙ c .if3 .taken)
 
 returns-4 : tie.Need-returns-4
-returns-4 c = head-many _ _ (c .before .before .before .before .before .before .before .if1 .left) (c .before .before .before .before .if2 .left ∙ c .before .before .before .before .before .whom-of .ensures) (omega (arith, c .if4 .taken, c .before .before .wide-byte .ensures))
+returns-4 c = head-many _ _ (c .before .before .before .before .before .before .before .if1 .left)
+    (c .before .before .before .before .if2 .left ∙ c .before .before .before .before .before .whom-of .ensures) (omega (arith, c .if4 .taken, c .before .before .wide-byte .ensures))
 
 returns-5 : tie.Need-returns-5
 returns-5 c =
     let f = now (c .before .before .before .before .before .before .before .before .before .args .f) in
     ap (λ (k : ℕ). leb (4 + 2 * k) (length f)) (c .before .before .wide-byte .ensures)
-    ∙ head-last _ _ (c .before .before .before .before .before .before .before .if1 .left) (c .before .before .before .before .if2 .left ∙ c .before .before .before .before .before .whom-of .ensures) (omega (arith, c .before .if3 .left, c .before .before .wide-byte .ensures)) (omega (arith, c .if4 .left, c .before .before .wide-byte .ensures))
+    ∙ head-last _ _ (c .before .before .before .before .before .before .before .if1 .left)
+    (c .before .before .before .before .if2 .left ∙ c .before .before .before .before .before .whom-of .ensures)
+    (omega (arith, c .before .if3 .left, c .before .before .wide-byte .ensures)) (omega (arith, c .if4 .left, c .before .before .wide-byte .ensures))
 
 pub head-is-right-spec : {M : Type 1} → statement M
 head-is-right-spec =

@@ -18,7 +18,12 @@ use Rattle.frame_reader.proofs.message_at.Tie as tie
 word-at-requires : tie.Need-word-at-requires
 word-at-requires c κs =
     let pre = c .before .before .before .before .pre in
-    omega (arith, pre .ends, size-beat (c .before .before .before .before .args .way .counts .depots) (getD (now (c .before .before .before .before .args .f)) (c .before .before .before .before .args .at) 0) (sym (c .before .word-of-byte .ensures) ∙ c .if1 .taken))
+    omega (
+      arith,
+      pre .ends,
+      size-beat (c .before .before .before .before .args .way .counts .depots)
+          (getD (now (c .before .before .before .before .args .f)) (c .before .before .before .before .args .at) 0) (sym (c .before .word-of-byte .ensures) ∙ c .if1 .taken),
+    )
 
 returns : tie.Need-returns
 unfolding messageAt
@@ -31,7 +36,8 @@ copy-at-requires c κs =
       omega (
         arith,
         pre .ends,
-        size-other (c .before .before .before .before .args .way .counts .depots) (getD (now (c .before .before .before .before .args .f)) (c .before .before .before .before .args .at) 0) (λ e. c .if1 .left (c .before .word-of-byte .ensures ∙ e)) (pre .known),
+        size-other (c .before .before .before .before .args .way .counts .depots)
+            (getD (now (c .before .before .before .before .args .f)) (c .before .before .before .before .args .at) 0) (λ e. c .if1 .left (c .before .word-of-byte .ensures ∙ e)) (pre .known),
       ),
     )
 

@@ -31,15 +31,18 @@ one-said :
     let args = c .before .before .before .before .before .args in
     c .message-is-right .result ≡ messageRight (args .way) (now (args .f)) (c .before .before .loop .i) (startIn (args .way .counts .depots) (now (args .f)) (c .before .before .loop .i))
 one-said c =
-    let args = c .before .before .before .before .before .args in c .message-is-right .ensures ∙ ap (messageRight (args .way) (now (args .f)) (c .before .before .loop .i)) (c .before .before .loop .inv .1)
+    let args = c .before .before .before .before .before .args in c .message-is-right .ensures ∙ ap
+    (messageRight (args .way) (now (args .f)) (c .before .before .loop .i)) (c .before .before .loop .inv .1)
 
 -- the message that passed
 passed :
-    (c : tie.Else1 Inv-loop μ-loop) → let args = c .before .before .before .before .before .before .args in At (args .way) (now (args .f)) (c .before .before .before .loop .i) (c .before .before .before .loop .at)
+    (c : tie.Else1 Inv-loop μ-loop) → let args = c .before .before .before .before .before .before .args in At (args .way) (now (args .f))
+    (c .before .before .before .loop .i) (c .before .before .before .loop .at)
 passed c = message-says _ _ _ _ (test-passed (c .before .message-is-right .ensures) (c .if1 .left))
 
 size-is :
-    (c : tie.After-size-of Inv-loop μ-loop) → let args = c .before .before .before .before .before .before .before .before .before .args in c .size-of .result ≡ sizeOf (args .way .counts .depots) (getD (now (args .f)) (c .before .before .before .before .before .before .loop .at) 0)
+    (c : tie.After-size-of Inv-loop μ-loop) → let args = c .before .before .before .before .before .before .before .before .before .args in c .size-of .result
+    ≡ sizeOf (args .way .counts .depots) (getD (now (args .f)) (c .before .before .before .before .before .before .loop .at) 0)
 size-is c = c .size-of .ensures ∙ ap (sizeOf (c .before .before .before .before .before .before .before .before .before .args .way .counts .depots)) (c .before .word-of-byte .ensures)
 
 loop-holds : tie.Need-loop-holds Inv-loop μ-loop

@@ -46,8 +46,10 @@ returns-2 c =
     let call = c .before .before .read-on in
     let way : Counts → Route = λ n. record { counts = n; shelf = args .s; from = args .from; to = args .d } in
     outcome-same
-    (reader-on _ _ _ _ _ _ _ (pre .0) (pre .1) (pre .2) (pre .3) (λ e. c .before .before .before .before .before .if1 .left (c .before .before .before .before .before .before .before .index .ensures ∙ e ∙ sym (c .before .before .before .before .before .before .index2 .ensures))))
-    (subst (λ (n : Counts). Outcome (first (arrivalRows (way n) (args .expected) f (length o))) (countIn f) (put o 0 (bodyIn (way n) f)) o (call .result) (call .last .1 .1 .1 .0)) (c .before .before .before .before .counts-of .ensures) (call .ensures))
+    (reader-on _ _ _ _ _ _ _ (pre .0) (pre .1) (pre .2) (pre .3) (λ e. c .before .before .before .before .before .if1 .left
+    (c .before .before .before .before .before .before .before .index .ensures ∙ e ∙ sym (c .before .before .before .before .before .before .index2 .ensures))))
+    (subst (λ (n : Counts). Outcome (first (arrivalRows (way n) (args .expected) f (length o))) (countIn f) (put o 0 (bodyIn (way n) f)) o (call .result)
+    (call .last .1 .1 .1 .0)) (c .before .before .before .before .counts-of .ensures) (call .ensures))
 
 pub read-at-spec : {M : Type 1} → statement M
 read-at-spec =

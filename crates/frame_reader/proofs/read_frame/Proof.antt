@@ -38,7 +38,8 @@ returns-2 c =
     let args = c .before .before .before .before .before .before .before .before .before .before .before .args in
     let call = c .before .before .read-at in
     let good = good-link _ _ _ _ _ _ _ (c .before .before .before .before .before .before .before .check-link .ensures) (c .before .before .before .before .before .d .given .1) in
-    subst₃ (λ (x : Depot) (y : Shelf) (z : Depot). WasRead (now (args .book)) (x .0) (y .0) (z .0) (args .expected) (now (args .frame)) (now (args .out)) (call .result) (call .last .1 .1 .1 .1 .1 .1 .0))
+    subst₃ (λ (x : Depot) (y : Shelf) (z : Depot). WasRead (now (args .book)) (x .0) (y .0) (z .0) (args .expected) (now (args .frame)) (now (args .out))
+    (call .result) (call .last .1 .1 .1 .1 .1 .1 .0))
     (sym (good .1)) (sym (good .2)) (sym (good .3)) (call .ensures)
 
 pub read-frame-spec : {M : Type 1} → statement M

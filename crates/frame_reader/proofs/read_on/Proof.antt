@@ -28,7 +28,8 @@ small : (c : tie.Else1) → serialIn (now (c .before .before .before .before .ar
 small c = half-small _ 2 (record { at = λ i. omega (arith, c .before .before .before .shared-slice-known .given i) })
 
 -- the distance, of the frame's serial
-wraps : (c : tie.After-wrapping-sub-u16) → (c .wrapping-sub-u16 .result + serialIn (now (c .before .before .before .before .before .before .args .f))) % halfLimit ≡ c .before .before .before .before .before .before .args .expected
+wraps : (c : tie.After-wrapping-sub-u16) → (c .wrapping-sub-u16 .result + serialIn
+    (now (c .before .before .before .before .before .before .args .f))) % halfLimit ≡ c .before .before .before .before .before .before .args .expected
 wraps c = ap (λ (s : ℕ). (c .wrapping-sub-u16 .result + s) % halfLimit) (sym (c .before .half-at .ensures)) ∙ c .wrapping-sub-u16 .ensures
 
 returns : tie.Need-returns
@@ -45,7 +46,8 @@ returns-2 : tie.Need-returns-2
 unfolding frameNumber
 returns-2 c =
     refused-as Old _ _ _
-    (arrival-old _ _ _ _ (is (c .before .before .before .before)) (serial-old _ _ _ (search needs) (small (c .before .before .before .before)) (search needs) (wraps (c .before .before)) (c .before .if2 .taken) (c .if3 .taken)))
+    (arrival-old _ _ _ _ (is (c .before .before .before .before)) (serial-old _ _ _ (search needs) (small (c .before .before .before .before)) (search needs)
+    (wraps (c .before .before)) (c .before .if2 .taken) (c .if3 .taken)))
 
 returns-3 : tie.Need-returns-3
 unfolding frameNumber
@@ -64,16 +66,26 @@ mul-if4 c = omega (arith, c .wide-byte .ensures, whole (c .before .before .befor
 returns-4 : tie.Need-returns-4
 unfolding frameNumber
 returns-4 c =
-    let own = serial-own _ _ _ (search needs) (small (c .before .before .before .before .before .before)) (search needs) (wraps (c .before .before .before .before)) (c .before .before .before .if2 .left) in
+    let own = serial-own _ _ _ (search needs) (small (c .before .before .before .before .before .before)) (search needs)
+    (wraps (c .before .before .before .before)) (c .before .before .before .if2 .left) in
     refused-as NoRoom _ _ _ (arrival-room _ _ _ _ (is (c .before .before .before .before .before .before)) (own .1) (own .0) (omega (arith, c .if4 .taken, c .before .wide-byte .ensures)))
 
 hand-out-requires : tie.Need-hand-out-requires
-hand-out-requires c κs = (c .before .before .before .before .before .before .before .before .before .before .before .pre, is (c .before .before .before .before .before .before .before), c .before .before .wide-byte .ensures, omega (arith, c .before .if4 .left))
+hand-out-requires c κs = (
+  c .before .before .before .before .before .before .before .before .before .before .before .pre,
+  is
+      (c .before .before .before .before .before .before .before),
+  c .before .before .wide-byte .ensures,
+  omega (arith, c .before .if4 .left),
+)
 
 returns-5 : tie.Need-returns-5
 returns-5 c =
-    let own = serial-own _ _ _ (search needs) (small (c .before .before .before .before .before .before .before .before .before .before)) (search needs) (wraps (c .before .before .before .before .before .before .before .before)) (c .before .before .before .before .before .before .before .if2 .left) in
-    done-as (arrival-good _ _ _ _ (is (c .before .before .before .before .before .before .before .before .before .before)) (own .1) (own .0) (omega (arith, c .before .before .before .before .if4 .left, c .before .before .before .before .before .wide-byte .ensures))) (c .before .before .before .before .before .wide-byte .ensures) (c .before .before .hand-out .ensures)
+    let own = serial-own _ _ _ (search needs) (small (c .before .before .before .before .before .before .before .before .before .before)) (search needs)
+    (wraps (c .before .before .before .before .before .before .before .before)) (c .before .before .before .before .before .before .before .if2 .left) in
+    done-as (arrival-good _ _ _ _ (is (c .before .before .before .before .before .before .before .before .before .before)) (own .1) (own .0)
+    (omega (arith, c .before .before .before .before .if4 .left, c .before .before .before .before .before .wide-byte .ensures)))
+    (c .before .before .before .before .before .wide-byte .ensures) (c .before .before .hand-out .ensures)
 
 pub read-on-spec : {M : Type 1} → statement M
 read-on-spec =

@@ -16,10 +16,12 @@ cast-told c =
     omega (arith, d .1, c .before .before .before .before .before .before .before .before .before .before .shared-slice-known2 .given 1)
 
 returns-2 : tie.Need-returns-2
-returns-2 c = told-refused _ _ _ _ _ (c .before .before .before .before .before .before .before .before .if1 .left) _ (c .before .before .before .before .before .before .read-frame .ensures) (c .before .before .refusal .given .1) (c .frame-number .ensures)
+returns-2 c = told-refused _ _ _ _ _ (c .before .before .before .before .before .before .before .before .if1 .left) _
+    (c .before .before .before .before .before .before .read-frame .ensures) (c .before .before .refusal .given .1) (c .frame-number .ensures)
 
 returns-3 : tie.Need-returns-3
-returns-3 c = told-done _ _ _ _ _ (c .before .before .before .before .before .before .before .if1 .left) (c .before .before .before .before .before .read-frame .ensures) (c .before .count .given .1) refl
+returns-3 c = told-done _ _ _ _ _ (c .before .before .before .before .before .before .before .if1 .left)
+    (c .before .before .before .before .before .read-frame .ensures) (c .before .count .given .1) refl
 
 pub read-told-spec : {M : Type 1} → statement M
 read-told-spec =

@@ -16,10 +16,12 @@ cast-told c =
     omega (arith, d .1, size-small _ _ _ _ _ _ (d .0))
 
 returns-2 : tie.Need-returns-2
-returns-2 c = told-refused _ _ _ _ _ (c .before .before .before .before .before .before .before .before .if1 .left) _ (c .before .before .before .before .before .before .write-frame .ensures) (c .before .before .refusal .given .1) (c .frame-number .ensures)
+returns-2 c = told-refused _ _ _ _ _ (c .before .before .before .before .before .before .before .before .if1 .left) _
+    (c .before .before .before .before .before .before .write-frame .ensures) (c .before .before .refusal .given .1) (c .frame-number .ensures)
 
 returns-3 : tie.Need-returns-3
-returns-3 c = told-done _ _ _ _ _ (c .before .before .before .before .before .before .before .if1 .left) (c .before .before .before .before .before .write-frame .ensures) (c .before .size .given .1) refl
+returns-3 c = told-done _ _ _ _ _ (c .before .before .before .before .before .before .before .if1 .left)
+    (c .before .before .before .before .before .write-frame .ensures) (c .before .size .given .1) refl
 
 pub write-told-spec : {M : Type 1} → statement M
 write-told-spec =

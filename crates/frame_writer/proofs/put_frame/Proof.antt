@@ -34,15 +34,29 @@ put-offsets-requires c κs =
 
 put-messages-requires : tie.Need-put-messages-requires
 put-messages-requires c κs =
-    let pre = c .before .before .before .before .before .before .before .before .before .before .before .before .pre in
-    (pre .1, pre .2, pre .3, pre .0 .counts .depots, omega (arith, pre .4, ap length (c .before .before .before .put-offsets .ensures) ∙ length-put _ _ _, ap length (c .before .before .before .before .before .before .before .put-head .ensures) ∙ length-put _ _ _))
+    let pre = c .before .before .before .before .before .before .before .before .before .before .before .before .pre in (
+      pre .1,
+      pre .2,
+      pre .3,
+      pre .0 .counts .depots,
+      omega (
+        arith,
+        pre .4,
+        ap length (c .before .before .before .put-offsets .ensures)
+            ∙ length-put _ _ _,
+        ap length (c .before .before .before .before .before .before .before .put-head .ensures) ∙ length-put _ _ _,
+      ),
+    )
 
 same-length : tie.Need-same-length
 same-length c =
-    ap length (c .before .before .put-messages .ensures) ∙ length-put _ _ _ ∙ ap length (c .before .before .before .before .before .before .put-offsets .ensures) ∙ length-put _ _ _ ∙ ap length (c .before .before .before .before .before .before .before .before .before .before .put-head .ensures) ∙ length-put _ _ _
+    ap length (c .before .before .put-messages .ensures) ∙ length-put _ _ _ ∙ ap length
+    (c .before .before .before .before .before .before .put-offsets .ensures) ∙ length-put _ _ _ ∙ ap length
+    (c .before .before .before .before .before .before .before .before .before .before .put-head .ensures) ∙ length-put _ _ _
 
 returns : tie.Need-returns
-returns c = frame-put _ _ _ _ _ (c .before .before .before .before .before .before .before .before .before .before .put-head .ensures) (c .before .before .before .before .before .before .put-offsets .ensures) (c .before .before .put-messages .ensures)
+returns c = frame-put _ _ _ _ _ (c .before .before .before .before .before .before .before .before .before .before .put-head .ensures)
+    (c .before .before .before .before .before .before .put-offsets .ensures) (c .before .before .put-messages .ensures)
 
 pub put-frame-spec : {M : Type 1} → statement M
 put-frame-spec =

@@ -30,8 +30,10 @@ abbrev μ-loop : tie.MeasureT-loop
 
 size-is :
     (c : tie.After-size-of Inv-loop μ-loop) →
-    let args = c .before .before .before .before .before .before .before .before .before .before .before .before .args in c .size-of .result ≡ sizeOf (args .depots) (kindOf (slot (now (args .book)) (args .q .0) (args .taken + c .before .before .before .before .before .before .before .before .before .loop .i)))
-size-is c = c .size-of .ensures ∙ ap (sizeOf (c .before .before .before .before .before .before .before .before .before .before .before .before .args .depots)) (kind-there _ _ _ (c .before .before .before .before .before .before .before .slot-at .ensures))
+    let args = c .before .before .before .before .before .before .before .before .before .before .before .before .args in c .size-of .result ≡ sizeOf
+    (args .depots) (kindOf (slot (now (args .book)) (args .q .0) (args .taken + c .before .before .before .before .before .before .before .before .before .loop .i)))
+size-is c = c .size-of .ensures ∙ ap (sizeOf (c .before .before .before .before .before .before .before .before .before .before .before .before .args .depots))
+    (kind-there _ _ _ (c .before .before .before .before .before .before .before .slot-at .ensures))
 
 loop-holds : tie.Need-loop-holds Inv-loop μ-loop
 loop-holds c = (search needs, place-none _ _ _, refl, put-none _ (bodyAt (c .before .before .args .count)) _)
@@ -41,10 +43,12 @@ put-message-requires c κs =
     let args = c .before .before .before .before .before .before .before .args in
     let loop = c .before .before .before .before .loop in
     let g : ℕ → List ℕ = λ j. slot (now (args .book)) (args .q .0) (args .taken + j) in
-    let room = place-room (args .depots) (args .count) g (loop .i) _ (c .before .before .before .loop-test .taken) (loop .inv .1) (c .before .before .before .before .before .before .before .pre .4) in (
+    let room = place-room (args .depots) (args .count) g (loop .i) _ (c .before .before .before .loop-test .taken) (loop .inv .1)
+    (c .before .before .before .before .before .before .before .pre .4) in (
       search needs,
       c .before .before .before .before .before .before .before .pre .3,
-      subst (λ (m : List ℕ). loop .at + sizeOf (args .depots) (kindOf m) ≤ length (loop .out)) (sym (part-from (now (args .book)) 10 (c .before .before .slot-at .ensures))) (omega (arith, room, loop .inv .2)),
+      subst (λ (m : List ℕ). loop .at + sizeOf (args .depots) (kindOf m) ≤ length (loop .out))
+          (sym (part-from (now (args .book)) 10 (c .before .before .slot-at .ensures))) (omega (arith, room, loop .inv .2)),
     )
 
 add-at-2 : tie.Need-add-at-2 Inv-loop μ-loop
@@ -53,7 +57,14 @@ add-at-2 c =
     let loop = c .before .before .before .before .before .before .before .before .before .loop in
     let g : ℕ → List ℕ = λ j. slot (now (args .book)) (args .q .0) (args .taken + j) in
     let next : loop .at + c .size-of .result ≡ placeOf (args .depots) (args .count) g (loop .i + 1) = place-more _ _ g _ (loop .inv .1) (size-is c) in
-    omega (arith, next, place-most (args .depots) (args .count) g (loop .i + 1) (c .before .before .before .before .before .before .before .before .before .before .before .before .pre .3), c .before .before .before .before .before .before .before .before .before .before .before .before .pre .2, c .before .before .before .before .before .before .before .before .loop-test .taken)
+    omega (
+      arith,
+      next,
+      place-most (args .depots) (args .count) g (loop .i + 1)
+          (c .before .before .before .before .before .before .before .before .before .before .before .before .pre .3),
+      c .before .before .before .before .before .before .before .before .before .before .before .before .pre .2,
+      c .before .before .before .before .before .before .before .before .loop-test .taken,
+    )
 
 loop-again : tie.Need-loop-again Inv-loop μ-loop
 loop-again c =
@@ -64,7 +75,8 @@ loop-again c =
       place-more _ _ g _ (loop .inv .1) (size-is c),
       ap length (c .before .before .before .before .put-message .ensures) ∙ length-put _ _ _ ∙ loop .inv .2,
       put-run _ (bodyAt (args .count)) (loop .i) (λ k. messageBytes (args .depots) (g k)) (loop .inv .3) (place-runs (args .depots) (args .count) g (loop .i) (loop .inv .1))
-          (ap (messageBytes (args .depots)) (part-from (now (args .book)) 10 (c .before .before .before .before .before .before .before .slot-at .ensures))) (c .before .before .before .before .put-message .ensures),
+          (ap (messageBytes (args .depots)) (part-from (now (args .book)) 10 (c .before .before .before .before .before .before .before .slot-at .ensures)))
+          (c .before .before .before .before .put-message .ensures),
     )
 
 returns : tie.Need-returns Inv-loop μ-loop

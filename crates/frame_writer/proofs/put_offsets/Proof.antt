@@ -30,8 +30,10 @@ abbrev μ-loop : tie.MeasureT-loop
 
 size-is :
     (c : tie.After-size-of Inv-loop μ-loop) →
-    let args = c .before .before .before .before .before .before .before .before .before .before .before .args in c .size-of .result ≡ sizeOf (args .depots) (kindOf (slot (now (args .book)) (args .q .0) (args .taken + c .before .before .before .before .before .before .before .before .loop .i)))
-size-is c = c .size-of .ensures ∙ ap (sizeOf (c .before .before .before .before .before .before .before .before .before .before .before .args .depots)) (kind-there _ _ _ (c .before .before .slot-at .ensures))
+    let args = c .before .before .before .before .before .before .before .before .before .before .before .args in c .size-of .result ≡ sizeOf (args .depots)
+    (kindOf (slot (now (args .book)) (args .q .0) (args .taken + c .before .before .before .before .before .before .before .before .loop .i)))
+size-is c = c .size-of .ensures ∙ ap (sizeOf (c .before .before .before .before .before .before .before .before .before .before .before .args .depots))
+    (kind-there _ _ _ (c .before .before .slot-at .ensures))
 
 loop-holds : tie.Need-loop-holds Inv-loop μ-loop
 loop-holds c = (search needs, place-none _ _ _, refl, put-none _ 4 _)
@@ -45,7 +47,14 @@ add-at-2 c =
     let loop = c .before .before .before .before .before .before .before .before .loop in
     let g : ℕ → List ℕ = λ j. slot (now (args .book)) (args .q .0) (args .taken + j) in
     let next : loop .at + c .size-of .result ≡ placeOf (args .depots) (args .count) g (loop .i + 1) = place-more _ _ g _ (loop .inv .1) (size-is c) in
-    omega (arith, next, place-most (args .depots) (args .count) g (loop .i + 1) (c .before .before .before .before .before .before .before .before .before .before .before .pre .3), c .before .before .before .before .before .before .before .before .before .before .before .pre .2, c .before .before .before .before .before .before .before .loop-test .taken)
+    omega (
+      arith,
+      next,
+      place-most (args .depots) (args .count) g (loop .i + 1)
+          (c .before .before .before .before .before .before .before .before .before .before .before .pre .3),
+      c .before .before .before .before .before .before .before .before .before .before .before .pre .2,
+      c .before .before .before .before .before .before .before .loop-test .taken,
+    )
 
 loop-again : tie.Need-loop-again Inv-loop μ-loop
 loop-again c =
@@ -55,7 +64,8 @@ loop-again c =
       search needs,
       place-more _ _ g _ (loop .inv .1) (size-is c),
       ap length (c .before .before .before .before .before .put-half .ensures) ∙ length-put _ _ _ ∙ loop .inv .2,
-      put-run _ 4 (loop .i) (λ k. halfBytes (placeOf (args .depots) (args .count) g k)) (loop .inv .3) (offset-runs (args .depots) (args .count) g (loop .i)) (ap halfBytes (loop .inv .1)) (c .before .before .before .before .before .put-half .ensures),
+      put-run _ 4 (loop .i) (λ k. halfBytes (placeOf (args .depots) (args .count) g k)) (loop .inv .3) (offset-runs (args .depots) (args .count) g (loop .i))
+          (ap halfBytes (loop .inv .1)) (c .before .before .before .before .before .put-half .ensures),
     )
 
 returns : tie.Need-returns Inv-loop μ-loop

@@ -35,7 +35,8 @@ loop-again c =
     let loop = c .before .before .before .before .before .before .loop in (
       search needs,
       ap length (c .before .before .put-word .ensures) ∙ length-put _ _ _ ∙ loop .inv .1,
-      put-run _ (args .at) (loop .i) (λ j. wordBytes (sentWord (now (args .m)) j)) (loop .inv .2) (word-runs (now (args .m)) (args .at) (loop .i)) (ap wordBytes (c .before .before .before .before .sent-word .ensures)) (c .before .before .put-word .ensures),
+      put-run _ (args .at) (loop .i) (λ j. wordBytes (sentWord (now (args .m)) j)) (loop .inv .2) (word-runs (now (args .m)) (args .at) (loop .i))
+          (ap wordBytes (c .before .before .before .before .sent-word .ensures)) (c .before .before .put-word .ensures),
     )
 
 returns : tie.Need-returns Inv-loop μ-loop

@@ -20,7 +20,8 @@ abbrev μ-loop : tie.MeasureT-loop
 
 size-is :
     (c : tie.After-size-of Inv-loop μ-loop) →
-    let args = c .before .before .before .before .before .before .args in c .size-of .result ≡ sizeOf (args .depots) (kindOf (slot (now (args .book)) (args .q .0) (args .taken + c .before .before .before .before .loop .i)))
+    let args = c .before .before .before .before .before .before .args in c .size-of .result ≡ sizeOf (args .depots)
+    (kindOf (slot (now (args .book)) (args .q .0) (args .taken + c .before .before .before .before .loop .i)))
 size-is c = c .size-of .ensures ∙ ap (sizeOf (c .before .before .before .before .before .before .args .depots)) (kind-there _ _ _ (c .before .before .slot-at .ensures))
 
 loop-holds : tie.Need-loop-holds Inv-loop μ-loop
@@ -32,7 +33,14 @@ add-at-2 c =
     let loop = c .before .before .before .before .loop in
     let g : ℕ → mathlib.Core.List.List ℕ = λ j. slot (now (args .book)) (args .q .0) (args .taken + j) in
     let next : loop .at + c .size-of .result ≡ placeOf (args .depots) (args .count) g (loop .i + 1) = place-more _ _ g _ (loop .inv .1) (size-is c) in
-    omega (arith, next, place-most (args .depots) (args .count) g (loop .i + 1) (c .before .before .before .before .before .before .pre .3), c .before .before .before .before .before .before .pre .2, c .before .before .before .loop-test .taken)
+    omega (
+      arith,
+      next,
+      place-most (args .depots) (args .count) g (loop .i + 1)
+          (c .before .before .before .before .before .before .pre .3),
+      c .before .before .before .before .before .before .pre .2,
+      c .before .before .before .loop-test .taken,
+    )
 
 loop-again : tie.Need-loop-again Inv-loop μ-loop
 loop-again c = (search needs, place-more _ _ _ _ (c .before .before .before .before .loop .inv .1) (size-is c))

@@ -42,7 +42,8 @@ unfolding waitingFit
 returns-2 c =
     let args = c .before .before .before .before .before .before .args in
     c .waiting-fit .ensures
-    ∙ ap₂ (λ (t h : ℕ). every (h - t) (λ i. messageFit (args .n) (args .s .0) (args .from .0) (slot (now (args .book)) (args .q .0) (t + i)))) (c .before .before .taken-of .ensures) (c .before .held-of .ensures)
+    ∙ ap₂ (λ (t h : ℕ). every (h - t) (λ i. messageFit (args .n) (args .s .0) (args .from .0) (slot (now (args .book)) (args .q .0) (t + i))))
+    (c .before .before .taken-of .ensures) (c .before .held-of .ensures)
     ∙ sym (and-next _ (test-passed (c .before .before .before .before .head-fits .ensures) (c .before .before .before .if1 .left)))
 
 pub waiting-fits-spec : {M : Type 1} → statement M

@@ -40,12 +40,14 @@ small c =
     let w = base start in
     omega (arith, c .between .ensures, start .pre .1, start .pre .2, start .pre .3, w .within .depots, w .within .shelves)
 
-link-said : (c : tie.After-waiting-fits) → let args = c .before .before .before .before .before .before .before .before .args in c .waiting-fits .result ≡ waitingFit (countsOf (now (args .book))) (now (args .book)) (args .s .0) (args .from .0) (linkOf (args .s .0) (args .from .0) (args .d .0))
+link-said : (c : tie.After-waiting-fits) → let args = c .before .before .before .before .before .before .before .before .args in c .waiting-fits .result
+    ≡ waitingFit (countsOf (now (args .book))) (now (args .book)) (args .s .0) (args .from .0) (linkOf (args .s .0) (args .from .0) (args .d .0))
 link-said c =
     let args = c .before .before .before .before .before .before .before .before .args in
     c .waiting-fits .ensures ∙ ap₂ (λ (n : Counts) (q : ℕ). waitingFit n (now (args .book)) (args .s .0) (args .from .0) q) (c .before .before .counts-of .ensures) (c .before .between .ensures)
 
-fits : (c : tie.Else2) → let args = c .before .before .before .before .before .before .before .before .before .args in waitingFit (countsOf (now (args .book))) (now (args .book)) (args .s .0) (args .from .0) (linkOf (args .s .0) (args .from .0) (args .d .0)) ≡ true
+fits : (c : tie.Else2) → let args = c .before .before .before .before .before .before .before .before .before .args in waitingFit (countsOf (now (args .book)))
+    (now (args .book)) (args .s .0) (args .from .0) (linkOf (args .s .0) (args .from .0) (args .d .0)) ≡ true
 fits c = test-passed (link-said (c .before)) (c .if2 .left)
 
 -- the link's head
@@ -55,17 +57,22 @@ heads :
     (c .before .held-of .result ≡ held (now (args .book)) (linkOf (args .s .0) (args .from .0) (args .d .0)))
     × (c .taken-of .result ≡ taken (now (args .book)) (linkOf (args .s .0) (args .from .0) (args .d .0)))
 heads c =
-    let args = c .before .before .before .before .before .before .before .before .before .before .before .args in
-    (c .before .held-of .ensures ∙ ap (held (now (args .book))) (c .before .before .before .before .between .ensures), c .taken-of .ensures ∙ ap (taken (now (args .book))) (c .before .before .before .before .between .ensures))
+    let args = c .before .before .before .before .before .before .before .before .before .before .before .args in (
+      c .before .held-of .ensures ∙ ap (held (now (args .book))) (c .before .before .before .before .between .ensures),
+      c .taken-of .ensures ∙ ap
+          (taken (now (args .book))) (c .before .before .before .before .between .ensures),
+    )
 
-more : (c : tie.Else3) → let args = c .before .before .before .before .before .before .before .before .before .before .before .before .args in taken (now (args .book)) (linkOf (args .s .0) (args .from .0) (args .d .0)) < held (now (args .book)) (linkOf (args .s .0) (args .from .0) (args .d .0))
+more : (c : tie.Else3) → let args = c .before .before .before .before .before .before .before .before .before .before .before .before .args in taken
+    (now (args .book)) (linkOf (args .s .0) (args .from .0) (args .d .0)) < held (now (args .book)) (linkOf (args .s .0) (args .from .0) (args .d .0))
 more c = let h = heads (c .before) in omega (arith, c .if3 .left, h .0, h .1)
 
 -- the test of the count
 count-said :
     (c : tie.After-is-count) →
     let args = c .before .before .before .before .before .before .before .before .before .before .before .before .before .before .args in
-    c .is-count .result ≡ mathlib.Core.Bool.not (badCount (args .count) (held (now (args .book)) (linkOf (args .s .0) (args .from .0) (args .d .0)) - taken (now (args .book)) (linkOf (args .s .0) (args .from .0) (args .d .0))))
+    c .is-count .result ≡ mathlib.Core.Bool.not (badCount (args .count)
+    (held (now (args .book)) (linkOf (args .s .0) (args .from .0) (args .d .0)) - taken (now (args .book)) (linkOf (args .s .0) (args .from .0) (args .d .0))))
 count-said c =
     let h = heads (c .before .before .before) in
     c .is-count .ensures ∙ ap mathlib.Core.Bool.not (ap₂ badCount (c .before .wide .ensures) (ap₂ (λ (a b : ℕ). a - b) (h .0) (h .1)))
@@ -91,7 +98,9 @@ size-said :
 unfolding frameSize
 size-said c =
     let args = c .before .before .before .before .before .before .before .before .before .before .before .before .before .before .before .before .args in
-    c .size-of-frame .ensures ∙ size-same (now (args .book)) (ap (λ (n : Counts). n .depots) (c .before .before .before .before .before .before .before .before .before .before .counts-of .ensures)) (c .before .before .before .before .before .before .before .before .before .between .ensures) (heads (c .before .before .before .before .before) .1) (c .before .before .before .wide .ensures)
+    c .size-of-frame .ensures ∙ size-same (now (args .book)) (ap (λ (n : Counts). n .depots)
+    (c .before .before .before .before .before .before .before .before .before .before .counts-of .ensures))
+    (c .before .before .before .before .before .before .before .before .before .between .ensures) (heads (c .before .before .before .before .before) .1) (c .before .before .before .wide .ensures)
 
 returns : tie.Need-returns
 unfolding frameNumber numberOf
@@ -132,19 +141,22 @@ returns-3 c =
     let pre = c .before .before .before .before .before .before .before .before .before .before .before .before .pre in
     let h = heads (c .before) in
     refused-as (Link EmptyLink) _ _ _
-    (writer-empty _ _ _ _ _ _ (pre .0) (pre .1) (pre .2) (pre .3) (other (c .before .before .before .before .before .before .before)) (fits (c .before .before .before)) (omega (arith, c .if3 .taken, h .0, h .1)))
+    (writer-empty _ _ _ _ _ _ (pre .0) (pre .1) (pre .2) (pre .3) (other (c .before .before .before .before .before .before .before))
+    (fits (c .before .before .before)) (omega (arith, c .if3 .taken, h .0, h .1)))
 
 returns-4 : tie.Need-returns-4
 unfolding frameNumber
 returns-4 c =
     let pre = c .before .before .before .before .before .before .before .before .before .before .before .before .before .before .before .pre in
     refused-as BadCount _ _ _
-    (writer-count _ _ _ _ _ _ (pre .0) (pre .1) (pre .2) (pre .3) (other (c .before .before .before .before .before .before .before .before .before .before)) (fits (c .before .before .before .before .before .before)) (more (c .before .before .before)) (not-false _ (test-failed (count-said (c .before)) (c .if4 .taken))))
+    (writer-count _ _ _ _ _ _ (pre .0) (pre .1) (pre .2) (pre .3) (other (c .before .before .before .before .before .before .before .before .before .before))
+    (fits (c .before .before .before .before .before .before)) (more (c .before .before .before)) (not-false _ (test-failed (count-said (c .before)) (c .if4 .taken))))
 
 size-of-frame-requires : tie.Need-size-of-frame-requires
 size-of-frame-requires c κs =
     let w = base (c .before .before .before .before .before .before .before .before .before .before .before .before .before .before .before) in
-    let n : Within (c .before .before .before .before .before .before .before .before .before .counts-of .result) = subst Within (sym (c .before .before .before .before .before .before .before .before .before .counts-of .ensures)) (w .within) in
+    let n : Within (c .before .before .before .before .before .before .before .before .before .counts-of .result) = subst Within
+    (sym (c .before .before .before .before .before .before .before .before .before .counts-of .ensures)) (w .within) in
     (w .full, small (c .before .before .before .before .before .before .before .before), within c, n .depots)
 
 returns-5 : tie.Need-returns-5
@@ -152,14 +164,17 @@ unfolding frameNumber
 returns-5 c =
     let pre = c .before .before .before .before .before .before .before .before .before .before .before .before .before .before .before .before .before .pre in
     refused-as NoRoom _ _ _
-    (writer-room _ _ _ _ _ _ (pre .0) (pre .1) (pre .2) (pre .3) (other (c .before .before .before .before .before .before .before .before .before .before .before .before)) (fits (c .before .before .before .before .before .before .before .before)) (more (c .before .before .before .before .before)) (good-count (c .before .before))
+    (writer-room _ _ _ _ _ _ (pre .0) (pre .1) (pre .2) (pre .3) (other
+    (c .before .before .before .before .before .before .before .before .before .before .before .before))
+    (fits (c .before .before .before .before .before .before .before .before)) (more (c .before .before .before .before .before)) (good-count (c .before .before))
     (omega (arith, c .if5 .taken, size-said (c .before))))
 
 put-frame-requires : tie.Need-put-frame-requires
 put-frame-requires c κs =
     let args = c .before .before .before .before .before .before .before .before .before .before .before .before .before .before .before .before .before .before .args in
     let pre = c .before .before .before .before .before .before .before .before .before .before .before .before .before .before .before .before .before .before .pre in (
-      subst (λ (n : Counts). Ready (record { counts = n; shelf = args .s; from = args .from; to = args .d })) (sym (c .before .before .before .before .before .before .before .before .before .before .before .before .counts-of .ensures)) (route-ready _ _ _ _ (pre .0) (pre .1) (pre .2) (pre .3)),
+      subst (λ (n : Counts). Ready (record { counts = n; shelf = args .s; from = args .from; to = args .d }))
+          (sym (c .before .before .before .before .before .before .before .before .before .before .before .before .counts-of .ensures)) (route-ready _ _ _ _ (pre .0) (pre .1) (pre .2) (pre .3)),
       base (c .before .before .before .before .before .before .before .before .before .before .before .before .before .before .before .before .before .before) .full,
       small (c .before .before .before .before .before .before .before .before .before .before .before),
       within (c .before .before .before),
@@ -171,10 +186,17 @@ returns-6 c =
     let args = c .before .before .before .before .before .before .before .before .before .before .before .before .before .before .before .before .before .before .before .before .before .args in
     let pre = c .before .before .before .before .before .before .before .before .before .before .before .before .before .before .before .before .before .before .before .before .before .pre in
     done-as
-    (writer-good _ _ _ _ _ _ (pre .0) (pre .1) (pre .2) (pre .3) (other (c .before .before .before .before .before .before .before .before .before .before .before .before .before .before .before .before)) (fits (c .before .before .before .before .before .before .before .before .before .before .before .before)) (more (c .before .before .before .before .before .before .before .before .before)) (good-count (c .before .before .before .before .before .before)) (omega (arith, c .before .before .before .before .if5 .left, size-said (c .before .before .before .before .before))))
+    (writer-good _ _ _ _ _ _ (pre .0) (pre .1) (pre .2) (pre .3) (other
+    (c .before .before .before .before .before .before .before .before .before .before .before .before .before .before .before .before))
+    (fits (c .before .before .before .before .before .before .before .before .before .before .before .before))
+    (more (c .before .before .before .before .before .before .before .before .before)) (good-count (c .before .before .before .before .before .before))
+    (omega (arith, c .before .before .before .before .if5 .left, size-said (c .before .before .before .before .before))))
     (size-said (c .before .before .before .before .before))
     (c .before .before .put-frame .ensures
-    ∙ ap (put (now (args .out)) 0) (frame-same (now (args .book)) (args .s .0) (args .from .0) (args .d .0) (args .serial) (c .before .before .before .before .before .before .before .before .before .before .before .before .before .before .before .counts-of .ensures) (c .before .before .before .before .before .before .before .before .before .before .before .before .before .before .between .ensures) (heads (c .before .before .before .before .before .before .before .before .before .before) .1) (c .before .before .before .before .before .before .before .before .wide .ensures)))
+    ∙ ap (put (now (args .out)) 0) (frame-same (now (args .book)) (args .s .0) (args .from .0) (args .d .0) (args .serial)
+    (c .before .before .before .before .before .before .before .before .before .before .before .before .before .before .before .counts-of .ensures)
+    (c .before .before .before .before .before .before .before .before .before .before .before .before .before .before .between .ensures)
+    (heads (c .before .before .before .before .before .before .before .before .before .before) .1) (c .before .before .before .before .before .before .before .before .wide .ensures)))
 
 pub write-at-spec : {M : Type 1} → statement M
 write-at-spec =
