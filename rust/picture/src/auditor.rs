@@ -21,7 +21,7 @@ impl Audited {
         let entries = self.recorder.words().len() / ENTRY;
         let word = match self.recorder.verdict() {
             _ if entries == 0 => return None,
-            Verdict::Causal => format!("causal. Of {} reads and writes, no read is lower than its past", entries),
+            Verdict::Causal => format!("causal. No read is lower than its past. Reads and writes: {}", entries),
             Verdict::TooMany => format!("{} reads and writes are more than the {} that it judges", entries, MOST_ENTRIES),
             other => other.to_string(),
         };

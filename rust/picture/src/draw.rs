@@ -8,7 +8,7 @@ use crate::lettering::{broken, class, height_of, line_height, wrap};
 use crate::messages::messages;
 use crate::plan::{width, Placed, Plan, Row, Shape, SHORT};
 use crate::run::{Event, Line, Run};
-use crate::shapes::{circle, cross, diamond, line, numbered, point, text};
+use crate::shapes::{circle, cross, diamond, half, line, numbered, point, text};
 use crate::style;
 use crate::words::{self, Tone};
 use crate::xml::escape;
@@ -177,7 +177,7 @@ fn mark_of(layers: &mut Layers, plan: &Plan, at: usize) {
     let (y, r) = (plan.marks[at].0, plan.shape.mark);
     let x = match (asked.place, asked.section) {
         (Some((depot, shelf)), Some(section)) => plan.lanes(section).shelf(depot, shelf),
-        _ => plan.words - 12,
+        _ => plan.words - 15,
     };
     let marks = &mut layers.marks;
     if asked.refused.is_some() || asked.event == Event::Bad {
@@ -188,9 +188,9 @@ fn mark_of(layers: &mut Layers, plan: &Plan, at: usize) {
     match &asked.event {
         Event::Setup { .. } | Event::Bad => {}
         Event::Write { bearing, .. } => {
-            *marks += &numbered(&circle(x, y, r, "written"), x, y, "written-in", bearing.0);
+            *marks += &numbered(&circle(x, y, half(r, bearing.0), "written"), x, y, "written-in", bearing.0);
         }
-        Event::Read { bearing, .. } => *marks += &numbered(&diamond(x, y, r + 4, "read"), x, y, "", bearing.0),
+        Event::Read { bearing, .. } => *marks += &numbered(&diamond(x, y, half(r, bearing.0) + 4, "read"), x, y, "", bearing.0),
         Event::Tick { .. } => *marks += &circle(x, y, 4, "dot tick"),
         Event::Take { .. } => take(marks, plan, asked, x, y),
         Event::Refresh { .. } => *marks += &circle(x, y, 5, "read refresh"),
@@ -204,12 +204,12 @@ fn take(marks: &mut String, plan: &Plan, asked: &Line, x: i32, y: i32) {
         *marks += &circle(x, y, 4, "dot heard");
         return;
     };
-    let r = plan.shape.mark;
+    let (r, aside) = (plan.shape.mark, half(plan.shape.mark, bearing.0));
     let square = format!(
         "<rect x=\"{}\" y=\"{}\" width=\"{}\" height=\"{}\" rx=\"4\" class=\"taken\"/>\n",
-        x - r,
+        x - aside,
         y - r + 1,
-        2 * r,
+        2 * aside,
         2 * r - 2
     );
     *marks += &numbered(&square, x, y, "taken-in", bearing.0);
@@ -231,7 +231,7 @@ fn ending(layers: &mut Layers, plan: &Plan) -> i32 {
             for (depot, &has) in (0..).map(Depot).zip(&newest.has) {
                 let x = lanes.depot(depot) + lanes.depot_width() / 2;
                 let (class, inside) = if has { ("green has", "green-in") } else { ("lacks", "") };
-                layers.marks += &numbered(&circle(x, y + 20, plan.shape.mark, class), x, y + 20, inside, newest.bearing.0);
+                layers.marks += &numbered(&circle(x, y + 20, half(plan.shape.mark, newest.bearing.0), class), x, y + 20, inside, newest.bearing.0);
             }
             for (i, (_, part)) in (0..).zip(&texts) {
                 layers.text += &text(plan.words, y + 26 + 23 * i, "main", part);

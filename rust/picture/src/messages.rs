@@ -3,7 +3,7 @@
 use crate::draw::Layers;
 use crate::plan::Plan;
 use crate::run::Message;
-use crate::shapes::{arrow, circle, line, numbered, point, stretch};
+use crate::shapes::{arrow, circle, half, line, numbered, point, stretch};
 
 /// An arrow that would be longer is drawn as its two ends.
 const LONG: i32 = 1_100;
@@ -86,7 +86,7 @@ fn wait(layers: &mut Layers, plan: &Plan, message: &Message, taken: usize, aside
         stretch(plan.shape, x, top, bottom)
     );
     if message.shown.is_some_and(seen) {
-        let r = plan.shape.mark;
+        let r = half(plan.shape.mark, bearing.0);
         let (class, inside) = if message.kept { ("green", "green-in") } else { ("lower", "") };
         layers.marks += &numbered(&circle(x, bottom, r, class), x, bottom, inside, bearing.0);
     }

@@ -56,6 +56,11 @@ pub fn stretch(shape: &Shape, x: i32, top: i32, bottom: i32) -> String {
     )
 }
 
+/// Half the width of a mark, which is more if the bearing has three digits.
+pub fn half(mark: i32, bearing: u32) -> i32 {
+    mark + if bearing < 100 { 0 } else { 4 }
+}
+
 /// A mark with the bearing in it.
 pub fn numbered(mark: &str, x: i32, y: i32, class: &str, bearing: u32) -> String {
     format!("{}{}", mark, text(x, y + 5, &format!("in {}", class), &bearing.to_string()))

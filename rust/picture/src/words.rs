@@ -32,7 +32,7 @@ pub fn date(value: u32) -> String {
 /// A length or a weight: two places at most, or with an exponent if it is small.
 fn measure(value: f64) -> String {
     if value != 0.0 && value.abs() < 0.01 {
-        return format!("{:e}", value);
+        return format!("{:.1e}", value);
     }
     let text = format!("{:.2}", value);
     text.trim_end_matches('0').trim_end_matches('.').to_string()
@@ -125,11 +125,9 @@ fn doing(run: &Run, line: &Line) -> String {
     let done = line.refused.is_none();
     match &line.event {
         Event::Setup { counts, homes } if done => {
-            let lives = |(crew, home): (usize, &Depot)| format!("crew {} at home in {}", crew, home);
-            let homes: Vec<String> = homes.iter().enumerate().map(lives).collect();
             let [depots, shelves] = [(counts.depots, "depot"), (counts.shelves, "shelf")].map(counted);
             let [bearings, crews] = [(counts.bearings, "bearing"), (counts.crews, "crew")].map(counted);
-            format!("A fresh register: {}, {} each, {}, {}: {}", depots, shelves, bearings, crews, homes.join(", "))
+            format!("A fresh register: {}, {} each, {}, {}. At home: {}", depots, shelves, bearings, crews, at_home(homes))
         }
         Event::Setup { .. } => "A setup".to_string(),
         Event::Read { crew, bearing, answer } => match answer {
@@ -151,6 +149,19 @@ fn doing(run: &Run, line: &Line) -> String {
         Event::Refresh { depot, shelf } => format!("Depot {}, {} is refreshed", depot.0, shelf),
         Event::Bad => String::new(),
     }
+}
+
+/// Which crews are at home where.
+fn at_home(homes: &[Depot]) -> String {
+    let mut depots = homes.to_vec();
+    depots.sort();
+    depots.dedup();
+    let crews = |depot: &Depot| {
+        let crews: Vec<String> = (0..).zip(homes).filter(|(_, home)| *home == depot).map(|(crew, _): (u32, _)| crew.to_string()).collect();
+        let word = if crews.len() == 1 { "crew" } else { "crews" };
+        format!("{} {} in {}", word, crews.join(" "), depot)
+    };
+    depots.iter().map(crews).collect::<Vec<_>>().join(", ")
 }
 
 fn counted((count, what): (u32, &str)) -> String {
