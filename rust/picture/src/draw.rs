@@ -231,7 +231,13 @@ fn ending(layers: &mut Layers, plan: &Plan) -> i32 {
             for (depot, &has) in (0..).map(Depot).zip(&newest.has) {
                 let x = lanes.depot(depot) + lanes.depot_width() / 2;
                 let (class, inside) = if has { ("green has", "green-in") } else { ("lacks", "") };
-                layers.marks += &numbered(&circle(x, y + 20, half(plan.shape.mark, newest.bearing.0), class), x, y + 20, inside, newest.bearing.0);
+                layers.marks += &numbered(
+                    &circle(x, y + 20, half(plan.shape.mark, newest.bearing.0), class),
+                    x,
+                    y + 20,
+                    inside,
+                    newest.bearing.0,
+                );
             }
             for (i, (_, part)) in (0..).zip(&texts) {
                 layers.text += &text(plan.words, y + 26 + 23 * i, "main", part);

@@ -157,7 +157,8 @@ fn at_home(homes: &[Depot]) -> String {
     depots.sort();
     depots.dedup();
     let crews = |depot: &Depot| {
-        let crews: Vec<String> = (0..).zip(homes).filter(|(_, home)| *home == depot).map(|(crew, _): (u32, _)| crew.to_string()).collect();
+        let crews: Vec<String> =
+            (0..).zip(homes).filter(|(_, home)| *home == depot).map(|(crew, _): (u32, _)| crew.to_string()).collect();
         let word = if crews.len() == 1 { "crew" } else { "crews" };
         format!("{} {} in {}", word, crews.join(" "), depot)
     };
