@@ -26,7 +26,7 @@ pub fn class(tone: Tone) -> &'static str {
 pub fn wrap(text: &str, tone: Tone, width: i32) -> Vec<String> {
     let tenths = match tone {
         Tone::Main => 90,
-        Tone::Refused | Tone::Hidden | Tone::Shown => 102,
+        Tone::Refused | Tone::Hidden | Tone::Shown => 110,
         Tone::Thin => 80,
         Tone::Desk => 86,
     };
