@@ -7,6 +7,8 @@
 #   tools/rust.sh desk [COMMAND]       the desk, or what COMMAND starts, on 300,000 lines, a third of them damaged
 #   tools/rust.sh bench                the tables of docs/SPEED.md
 #   tools/rust.sh example              include/example.c, compiled, linked and run
+#   tools/rust.sh picture [OPTIONS]    a picture of a run: lines of the desk in, one page out; `picture --help` has its options
+#   tools/rust.sh pictures [check]     the pictures of docs/ made again; with `check` they are only compared
 #   tools/rust.sh cargo ARGUMENTS      cargo itself, in rust/, with everything set
 #   tools/rust.sh setup                only install what is missing for these
 #   tools/rust.sh emulator             only install the emulator, if this machine needs one
@@ -26,7 +28,8 @@ usage() {
 }
 
 case $#:${1-} in
-*:test | *:replay | *:long | *:desk | *:bench | *:cargo | 1:setup | 1:emulator | 1:example) ;;
+*:test | *:replay | *:long | *:desk | *:bench | *:picture | *:cargo | 1:setup | 1:emulator | 1:example | 1:pictures) ;;
+2:pictures) [ "$2" = check ] || { echo "rust.sh: pictures takes check, and not $2" >&2; exit 2; } ;;
 1:--help | 1:-h) usage; exit 0 ;;
 0:) usage >&2; exit 2 ;;
 *:setup | *:emulator | *:example) { echo "rust.sh: $1 takes no arguments"; usage; } >&2; exit 2 ;;
@@ -125,6 +128,33 @@ run() {
     "$cargo" run --manifest-path "$root/rust/Cargo.toml" --quiet --release --package "$program" -- "$@"
 }
 
+# One picture of docs/, for a desk and for a telephone: its name, its title; the lines of the desk come in.
+drawn() {
+    local lines
+    lines=$(cat)
+    mkdir -p "$(dirname "$made/$1")"
+    run picture --svg --title "$2" <<<"$lines" >"$made/$1.svg"
+    run picture --svg --phone --title "$2" <<<"$lines" >"$made/$1-phone.svg"
+}
+
+# The pictures of docs/: the story of README.md, from its own table, and those of the tour, docs/tour/NAME.desk, each with its title.
+pictures() {
+    local made=$root/target/pictures lines name title
+    rm -rf "$made"
+    sed -n '/^## A bearing moves to a new motor/,/^## Where/s/^| `\([^`]*\)` |.*/\1/p' "$root/README.md" | drawn story "A bearing moves to a new motor"
+    for lines in "$root"/docs/tour/*.desk; do
+        name=$(basename "$lines" .desk)
+        title=$(sed -n "s|.*<img src=\"tour/$name.svg\" alt=\"\([^\"]*\)\">.*|\1|p" "$root/docs/TOUR.md")
+        [ -n "$title" ] || fail "docs/TOUR.md does not show tour/$name.svg"
+        drawn "tour/$name" "$title" <"$lines"
+    done
+    [ "${1-}" = check ] || cp -R "$made/." "$root/docs/"
+    (cd "$made" && find . -name '*.svg') | while IFS= read -r name; do
+        cmp "$made/$name" "$root/docs/$name" || fail "docs/${name#./} is not what the program draws: tools/rust.sh pictures makes it again"
+    done
+    echo "pictures: $(find "$made" -name '*.svg' | wc -l), each to the byte"
+}
+
 case $command in
 test)
     archive
@@ -143,6 +173,8 @@ desk)
     cmp "$lines/desk.out" "$lines/desk.got" || fail "the desk answers otherwise: target/desk/desk.got, and not desk.out"
     echo "desk: every answer to the byte"
     ;;
+picture) run picture "$@" ;;
+pictures) pictures "$@" ;;
 bench)
     [ "$machine" = x86_64 ] || echo "Both sides are x86-64 programs under the same emulator: only the ratios mean something."
     run bench "$@"

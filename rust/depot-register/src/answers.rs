@@ -64,13 +64,49 @@ impl Refusal {
         self as u32
     }
 
+    /// The refusal of a number, as an answer line of the desk has it. 13, BAD LINE, is of no call.
+    ///
+    /// ```
+    /// # use depot_register::Refusal;
+    /// assert_eq!(Refusal::of_number(8), Some(Refusal::Wait));
+    /// assert_eq!(Refusal::of_number(13), None);
+    /// ```
+    pub fn of_number(number: u32) -> Option<Refusal> {
+        Refusal::ALL.into_iter().find(|refusal| refusal.number() == number)
+    }
+
+    /// The refusal's name in the register's table.
+    ///
+    /// ```
+    /// # use depot_register::Refusal;
+    /// assert_eq!(Refusal::LinkFull.name(), "LINK FULL");
+    /// ```
+    pub fn name(self) -> &'static str {
+        match self {
+            Refusal::BadBook => "BAD BOOK",
+            Refusal::BadDepot => "BAD DEPOT",
+            Refusal::BadShelf => "BAD SHELF",
+            Refusal::BadKey => "BAD KEY",
+            Refusal::BadCrew => "BAD CREW",
+            Refusal::SameDepot => "SAME DEPOT",
+            Refusal::EmptyLink => "EMPTY LINK",
+            Refusal::Wait => "WAIT",
+            Refusal::LinkFull => "LINK FULL",
+            Refusal::ClockAtEnd => "CLOCK AT END",
+            Refusal::BadCounts => "BAD COUNTS",
+            Refusal::NotHereYet => "NOT HERE YET",
+            Refusal::BadCard => "BAD CARD",
+            Refusal::BadDate => "BAD DATE",
+        }
+    }
+
     /// `Ok` for the number of "done", else the refusal.
     pub(crate) fn check(number: u32) -> Result<(), Refusal> {
         if number == 0 {
             return Ok(());
         }
-        let refusal = Refusal::ALL.iter().find(|refusal| refusal.number() == number);
-        Err(*refusal.unwrap_or_else(|| panic!("the library answered {}, which is no number of a call", number)))
+        let refusal = Refusal::of_number(number);
+        Err(refusal.unwrap_or_else(|| panic!("the library answered {}, which is no number of a call", number)))
     }
 }
 
