@@ -10,7 +10,7 @@ use Rattle.loops.specs.Loops.{pick}
 use Rattle.loops.proofs.BoolLaws.{both-ways}
 use borrow.Author.Tests.{eq-eqb}
 use Rattle.paper.specs.declared.answer.Refusal.{Refusal}
-use Rattle.paper.specs.declared.answer.Refusal.the-variants.{BadBook, BadDepot, BadShelf, BadKey, BadCrew, SameDepot, EmptyLink, Wait, LinkFull, ClockAtEnd, BadCounts, NotHereYet, BadDate, BadCard}
+use Rattle.paper.specs.declared.answer.Refusal.the-variants.{BadBook, BadDepot, BadShelf, BadKey, BadCrew, SameDepot, EmptyLink, Wait, LinkFull, ClockAtEnd, BadCounts, NotHereYet, BadDate, BadCard, BadList}
 use Rattle.paper.specs.Answers.{numberOf}
 use Rattle.paper.proofs.Settles.{number-settles}
 use Rattle.frame.specs.declared.FrameRefusal.{FrameRefusal}
@@ -40,6 +40,7 @@ own-link BadCounts = refl
 own-link NotHereYet = refl
 own-link BadDate = refl
 own-link BadCard = refl
+own-link BadList = refl
 
 own-back : (x : FrameRefusal) → own (frameNumber x) x ≡ x
 unfolding own pick frameNumber

@@ -206,7 +206,8 @@ module _ (l : List ℕ) (c : ℕ) {n : Counts} (en : n ≡ countsOf l) {d : ℕ}
       (every-at (countsOf l .shelves) _ (and-right (listedFit (countsOf l) l (home l c) ks) _ (and-right (crewFit (countsOf l) l c) _ h)) s hs))
 
   -- what is offered, and the shelves raised with it and shown
-  pub page-book : {u w m : List ℕ} → u ≡ fourOf (crewVector l c) → w ≡ gatheredFrom (n .depots) (n .shelves) d l u → m ≡ settledAll (n .depots) (n .shelves) d (vectorIn w) l → m ≡ pageBook l c
+  pub page-book : {u w m : List ℕ} → u ≡ fourOf (crewVector l c) → w ≡ gatheredFrom (n .depots) (n .shelves) d l u → m ≡ settledAll (n .depots) (n .shelves) d
+      (vectorIn w) l → m ≡ pageBook l c
   unfolding pageBook pageVector
   page-book {u} {w} eu ew em =
       em

@@ -25,10 +25,15 @@ loop-holds c = (search needs, every-none _)
 
 returns : tie.Need-returns Inv-loop μ-loop
 unfolding allBelow
-returns c = sym (every-stop _ _ _ (c .before .before .before .loop-test .taken) (le-ltb _ _ (subst (λ (k : ℕ). c .before .before .before .before .before .before .args .count ≤ k) (c .before .wide .ensures) (c .if1 .taken))))
+returns c = sym (every-stop _ _ _ (c .before .before .before .loop-test .taken) (le-ltb _ _
+    (subst (λ (k : ℕ). c .before .before .before .before .before .before .args .count ≤ k) (c .before .wide .ensures) (c .if1 .taken))))
 
 loop-again : tie.Need-loop-again Inv-loop μ-loop
-loop-again c = (search needs, every-more _ _ (c .before .before .before .before .loop .inv .1) (lt-ltb _ _ (subst (λ (k : ℕ). k < c .before .before .before .before .before .before .args .count) (c .before .wide .ensures) (c .if1 .left))))
+loop-again c = (
+  search needs,
+  every-more _ _ (c .before .before .before .before .loop .inv .1)
+      (lt-ltb _ _ (subst (λ (k : ℕ). k < c .before .before .before .before .before .before .args .count) (c .before .wide .ensures) (c .if1 .left))),
+)
 
 returns-2 : tie.Need-returns-2 Inv-loop μ-loop
 unfolding allBelow

@@ -34,8 +34,12 @@ loop-again : tie.Need-loop-again Inv-loop μ-loop
 loop-again c =
     let call = c .before .before .gather-one in
     let loop = c .before .before .before .before .before .before .loop in
-    let args = c .before .before .before .before .before .before .before .before .before .args in
-    (search needs, call .kept .1 .1 .1 .1 .0 ∙ loop .inv .1, times-more _ _ _ (loop .inv .2) (call .ensures ∙ ap (λ (x : ℕ). turn (args .n) (args .d .0) (now (args .book)) x (loop .vector)) (c .before .before .before .before .nth .ensures)))
+    let args = c .before .before .before .before .before .before .before .before .before .args in (
+      search needs,
+      call .kept .1 .1 .1 .1 .0 ∙ loop .inv .1,
+      times-more _ _ _ (loop .inv .2)
+          (call .ensures ∙ ap (λ (x : ℕ). turn (args .n) (args .d .0) (now (args .book)) x (loop .vector)) (c .before .before .before .before .nth .ensures)),
+    )
 
 returns : tie.Need-returns Inv-loop μ-loop
 unfolding gatheredFrom

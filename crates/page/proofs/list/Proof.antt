@@ -28,10 +28,15 @@ base-book c = test-passed (c .before .base-fits .ensures) (c .if1 .left)
 list-sized : (c : tie.Else2) → isList (now (c .before .before .before .before .before .before .before .before .before .before .before .before .before .args .bearings)) ≡ true
 list-sized c = test-passed (c .before .is-list .ensures) (c .if2 .left)
 
-crew-under : (c : tie.Else2) → c .before .before .before .before .before .before .before .before .before .before .before .before .before .args .crew < countsOf (now (c .before .before .before .before .before .before .before .before .before .before .before .before .before .args .book)) .crews
-crew-under c = subst (λ (m : Counts). c .before .before .before .before .before .before .before .before .before .before .before .before .before .args .crew < m .crews) (c .before .before .before .before .before .before .counts-of .ensures) (good-crew _ (c .before .before .before .before .before .checked .ensures) (c .before .before .before .c .given .1) .0)
+crew-under : (c : tie.Else2) → c .before .before .before .before .before .before .before .before .before .before .before .before .before .args .crew < countsOf
+    (now (c .before .before .before .before .before .before .before .before .before .before .before .before .before .args .book)) .crews
+crew-under c = subst (λ (m : Counts). c .before .before .before .before .before .before .before .before .before .before .before .before .before .args .crew < m .crews)
+    (c .before .before .before .before .before .before .counts-of .ensures) (good-crew _ (c .before .before .before .before .before .checked .ensures)
+    (c .before .before .before .c .given .1) .0)
 
-bearings-said : (c : tie.After-all-below) → c .all-below .result ≡ allBelow (countsOf (now (c .before .before .before .before .before .before .before .before .before .before .before .before .before .before .args .book)) .bearings) (now (c .before .before .before .before .before .before .before .before .before .before .before .before .before .before .args .bearings))
+bearings-said : (c : tie.After-all-below) → c .all-below .result ≡ allBelow (countsOf (now
+    (c .before .before .before .before .before .before .before .before .before .before .before .before .before .before .args .book)) .bearings)
+    (now (c .before .before .before .before .before .before .before .before .before .before .before .before .before .before .args .bearings))
 bearings-said c = c .all-below .ensures ∙ ap (λ (m : Counts). allBelow (m .bearings) (now (c .before .before .before .before .before .before .before .before .before .before .before .before .before .before .args .bearings))) (c .before .before .before .before .before .before .before .counts-of .ensures)
 
 returns : tie.Need-returns
@@ -48,7 +53,8 @@ returns-2 : tie.Need-returns-2
 unfolding numberOf
 returns-2 c =
     let args = c .before .before .before .before .before .before .before .before .before .before .before .args in
-    let over = subst (λ (m : Counts). m .crews ≤ args .crew) (c .before .before .before .before .counts-of .ensures) (bad-crew (c .before .before .before .checked .ensures) (c .before .enum-told .given .1)) in
+    let over = subst (λ (m : Counts). m .crews ≤ args .crew) (c .before .before .before .before .counts-of .ensures)
+    (bad-crew (c .before .before .before .checked .ensures) (c .before .enum-told .given .1)) in
     let e = list-crew (now (args .book)) (args .crew) (now (args .bearings)) (base-book (c .before .before .before .before .before .before)) over in
     let told = list-refused BadCrew _ (c .refused2 .ensures) e in
     record { answer = told .0; holds = told .1; book = after-refused BadCrew _ _ e }
@@ -57,8 +63,10 @@ returns-3 : tie.Need-returns-3
 unfolding numberOf
 returns-3 c =
     let args = c .before .before .before .before .before .before .before .before .before .before .before .before .before .before .args in
-    let under = subst (λ (m : Counts). args .crew < m .crews) (c .before .before .before .before .before .before .before .counts-of .ensures) (good-crew _ (c .before .before .before .before .before .before .checked .ensures) (c .before .before .before .before .c .given .1) .0) in
-    let e = list-size (now (args .book)) (args .crew) (now (args .bearings)) (base-book (c .before .before .before .before .before .before .before .before .before)) under (test-failed (c .before .before .is-list .ensures) (c .before .if2 .taken)) in
+    let under = subst (λ (m : Counts). args .crew < m .crews) (c .before .before .before .before .before .before .before .counts-of .ensures)
+    (good-crew _ (c .before .before .before .before .before .before .checked .ensures) (c .before .before .before .before .c .given .1) .0) in
+    let e = list-size (now (args .book)) (args .crew) (now (args .bearings)) (base-book (c .before .before .before .before .before .before .before .before .before)) under
+    (test-failed (c .before .before .is-list .ensures) (c .before .if2 .taken)) in
     let told = list-refused BadList _ (c .refused3 .ensures) e in
     record { answer = told .0; holds = told .1; book = after-refused BadList _ _ e }
 
@@ -67,7 +75,8 @@ unfolding numberOf
 returns-4 c =
     let args = c .before .before .before .before .before .before .before .before .before .before .before .before .before .before .before .before .args in
     let past = c .before .before .before in
-    let e = list-key (now (args .book)) (args .crew) (now (args .bearings)) (base-book (c .before .before .before .before .before .before .before .before .before .before .before)) (crew-under past) (list-sized past) (test-failed (bearings-said (c .before .before)) (c .before .if3 .taken)) in
+    let e = list-key (now (args .book)) (args .crew) (now (args .bearings)) (base-book (c .before .before .before .before .before .before .before .before .before .before .before))
+    (crew-under past) (list-sized past) (test-failed (bearings-said (c .before .before)) (c .before .if3 .taken)) in
     let told = list-refused BadKey _ (c .refused4 .ensures) e in
     record { answer = told .0; holds = told .1; book = after-refused BadKey _ _ e }
 
@@ -75,14 +84,21 @@ list-at-requires : tie.Need-list-at-requires
 list-at-requires c κs =
     let book = now (c .before .before .before .before .before .before .before .before .before .before .before .before .before .before .before .before .args .book) in
     let past = c .before .before .before in
-    let crew = good-crew _ (c .before .before .before .before .before .before .before .before .checked .ensures) (c .before .before .before .before .before .before .c .given .1) in
-    (base-book (c .before .before .before .before .before .before .before .before .before .before .before), subst (λ (x : Crew). x .0 < countsOf book .crews) (crew .1) (crew-under past), list-sized past, test-passed (bearings-said (c .before .before)) (c .before .if3 .left))
+    let crew = good-crew _ (c .before .before .before .before .before .before .before .before .checked .ensures) (c .before .before .before .before .before .before .c .given .1) in (
+      base-book (c .before .before .before .before .before .before .before .before .before .before .before),
+      subst (λ (x : Crew). x .0 < countsOf book .crews) (crew .1)
+          (crew-under past),
+      list-sized past,
+      test-passed (bearings-said (c .before .before)) (c .before .if3 .left),
+    )
 
 returns-5 : tie.Need-returns-5
 returns-5 c =
     let call = c .before .before .list-at in
     let args = c .before .before .before .before .before .before .before .before .before .before .before .before .before .before .before .before .before .before .before .args in
-    subst (λ (x : Crew). Listing (now (args .book)) (x .0) (now (args .bearings)) (call .result) (call .last .0)) (sym (good-crew _ (c .before .before .before .before .before .before .before .before .before .before .before .checked .ensures) (c .before .before .before .before .before .before .before .before .before .c .given .1) .1)) (call .ensures)
+    subst (λ (x : Crew). Listing (now (args .book)) (x .0) (now (args .bearings)) (call .result) (call .last .0))
+    (sym (good-crew _ (c .before .before .before .before .before .before .before .before .before .before .before .checked .ensures)
+    (c .before .before .before .before .before .before .before .before .before .c .given .1) .1)) (call .ensures)
 
 pub list-spec : {M : Type 1} → statement M
 list-spec =

@@ -30,17 +30,20 @@ base c = base-open _ (c .pre .0)
 -- what the test of the parts says
 parts-said :
     (c : tie.After-list-parts-fit) →
-    let args = c .before .before .before .before .before .before .before .before .args in c .list-parts-fit .result ≡ listParts (countsOf (now (args .book))) (now (args .book)) (args .c .0) (now (args .bearings))
+    let args = c .before .before .before .before .before .before .before .before .args in c .list-parts-fit .result ≡ listParts (countsOf (now (args .book))) (now (args .book))
+    (args .c .0) (now (args .bearings))
 parts-said c = c .list-parts-fit .ensures ∙ parts-listed _ _ (c .before .before .before .before .counts-of .ensures) (c .before .before .home-depot .ensures) _
 
-parts-fit : (c : tie.Else1) → let args = c .before .before .before .before .before .before .before .before .before .args in listParts (countsOf (now (args .book))) (now (args .book)) (args .c .0) (now (args .bearings)) ≡ true
+parts-fit : (c : tie.Else1) → let args = c .before .before .before .before .before .before .before .before .before .args in listParts (countsOf (now (args .book))) (now (args .book))
+    (args .c .0) (now (args .bearings)) ≡ true
 parts-fit c = test-passed (parts-said (c .before)) (c .if1 .left)
 
 -- the numbers that were worked out
 small :
     (c : tie.After-home-depot) →
     let n = c .before .before .counts-of .result in
-    (n .depots ≤ 4) × (n .shelves ≤ 4) × (n .bearings ≤ 160) × (c .home-depot .result .0 < 4) × (c .before .before .before .before .before .before .args .c .0 < 16) × (allBelow (n .bearings) (now (c .before .before .before .before .before .before .args .bearings)) ≡ true)
+    (n .depots ≤ 4) × (n .shelves ≤ 4) × (n .bearings ≤ 160) × (c .home-depot .result .0 < 4) × (c .before .before .before .before .before .before .args .c .0 < 16) ×
+    (allBelow (n .bearings) (now (c .before .before .before .before .before .before .args .bearings)) ≡ true)
 small c =
     let start = c .before .before .before .before .before .before in
     let w = base start in
@@ -85,7 +88,14 @@ crew-vector-requires : tie.Need-crew-vector-requires
 crew-vector-requires c κs = (base (c .before .before .before .before .before .before .before .before .before .before) .full, small (c .before .before .before .before) .4)
 
 gather-requires : tie.Need-gather-requires
-gather-requires c κs = let h = small (c .before .before .before .before .before .before .before) in (base (c .before .before .before .before .before .before .before .before .before .before .before .before .before) .full, h .0, h .1, h .3, ap (λ (v : List ℕ). length v) (c .before .before .crew-vector .ensures))
+gather-requires c κs = let h = small (c .before .before .before .before .before .before .before) in (
+  base (c .before .before .before .before .before .before .before .before .before .before .before .before .before) .full,
+  h .0,
+  h .1,
+  h .3,
+  ap (λ (v : List ℕ). length v)
+      (c .before .before .crew-vector .ensures),
+)
 
 settle-all-requires : tie.Need-settle-all-requires
 settle-all-requires c κs =
@@ -93,7 +103,9 @@ settle-all-requires c κs =
     let w = base start in (
       w .full,
       c .before .before .before .gather .kept .1 .1 .1 .1 .0 ∙ ap (λ (v : List ℕ). length v) (c .before .before .before .before .before .before .crew-vector .ensures),
-      shelves-ready _ _ (c .before .before .before .before .before .before .before .before .before .before .before .before .before .counts-of .ensures) (c .before .before .before .before .before .before .before .before .before .before .before .home-depot .ensures) (now (start .args .bearings)) w (start .pre .1) (parts-fit (c .before .before .before .before .before .before .before .before)),
+      shelves-ready _ _ (c .before .before .before .before .before .before .before .before .before .before .before .before .before .counts-of .ensures)
+          (c .before .before .before .before .before .before .before .before .before .before .before .home-depot .ensures) (now (start .args .bearings)) w (start .pre .1)
+          (parts-fit (c .before .before .before .before .before .before .before .before)),
     )
 
 tell-all-requires : tie.Need-tell-all-requires
@@ -115,7 +127,8 @@ returns-2 c =
     let ks = now (start .args .bearings) in
     let counts = c .before .before .before .before .before .before .before .before .before .before .before .before .before .before .before .before .before .before .before .before .before .before .before .before .counts-of .ensures in
     let depot = c .before .before .before .before .before .before .before .before .before .before .before .before .before .before .before .before .before .before .before .before .before .before .home-depot .ensures in
-    let done = list-good book (start .args .c .0) ks (start .pre .0) (start .pre .1) (start .pre .2) (start .pre .3) (parts-fit (c .before .before .before .before .before .before .before .before .before .before .before .before .before .before .before .before .before .before .before)) in
+    let done = list-good book (start .args .c .0) ks (start .pre .0) (start .pre .1) (start .pre .2) (start .pre .3)
+    (parts-fit (c .before .before .before .before .before .before .before .before .before .before .before .before .before .before .before .before .before .before .before)) in
     let paged = page-book book (start .args .c .0) counts depot (c .before .before .before .before .before .before .before .before .before .before .before .before .before .before .before .before .before .crew-vector .ensures) (c .before .before .before .before .before .before .before .before .before .before .before .before .before .before .gather .ensures) (c .before .before .before .before .before .before .before .before .before .before .settle-all .ensures) in
     let size = list-size-in ks (start .pre .2) in
     let told = list-told (c .before .before .before .before .before .before .before .before .before .before .before .before .before .before .before .before .before .before .before .before .before .before .before .before .counts-of .result .depots) (λ k. stored (c .before .before .before .before .before .before .before .before .before .before .settle-all .last .0) (c .before .before .before .before .before .before .before .before .before .before .before .before .before .before .before .before .before .before .before .before .before .before .home-depot .result .0) k) ks (small (c .before .before .before .before .before .before .before .before .before .before .before .before .before .before .before .before .before .before .before .before .before .before) .0) (size .0) (size .1) (c .before .before .before .before .before .tell-all .ensures) in

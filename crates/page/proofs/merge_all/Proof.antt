@@ -47,8 +47,12 @@ loop-again : tie.Need-loop-again Inv-loop μ-loop
 loop-again c =
     let call = c .before .before .merge-one in
     let loop = c .before .before .before .before .before .before .loop in
-    let args = c .before .before .before .before .before .before .before .before .before .args in
-    (search needs, call .kept .0 ∙ loop .inv .1, times-more _ _ _ (loop .inv .2) (call .ensures ∙ ap (λ (k : ℕ). turn (args .n .depots) (args .c .0) (args .d .0) k (loop .book)) (c .before .before .before .before .bearing-at .ensures)))
+    let args = c .before .before .before .before .before .before .before .before .before .args in (
+      search needs,
+      call .kept .0 ∙ loop .inv .1,
+      times-more _ _ _ (loop .inv .2) (call .ensures
+          ∙ ap (λ (k : ℕ). turn (args .n .depots) (args .c .0) (args .d .0) k (loop .book)) (c .before .before .before .before .bearing-at .ensures)),
+    )
 
 returns : tie.Need-returns Inv-loop μ-loop
 unfolding mergedAll

@@ -31,15 +31,20 @@ settle-requires c κs =
       loop .inv .1 ∙ start .pre .0,
       start .pre .1,
       subst (λ (x : ℕ). Ready (start .args .n) (start .args .d .0) x (loop .book)) (sym (c .nth .ensures))
-          (page-ready (start .args .n) (start .args .p) (start .args .d .0) (vectorIn (now (start .args .offered))) (now (start .args .book)) (start .pre .2) (loop .s) (c .before .before .loop-test .taken) (loop .inv .2)),
+          (page-ready (start .args .n) (start .args .p) (start .args .d .0) (vectorIn (now (start .args .offered))) (now (start .args .book)) (start .pre .2) (loop .s)
+          (c .before .before .loop-test .taken) (loop .inv .2)),
     )
 
 loop-again : tie.Need-loop-again Inv-loop μ-loop
 loop-again c =
     let call = c .before .before .settle in
     let loop = c .before .before .before .before .before .before .loop in
-    let args = c .before .before .before .before .before .before .before .before .before .args in
-    (search needs, call .kept .0 ∙ loop .inv .1, times-more _ _ _ (loop .inv .2) (call .ensures ∙ ap (λ (x : ℕ). pageTurn (args .n) (args .d .0) (vectorIn (now (args .offered))) x (loop .book)) (c .before .before .before .nth .ensures)))
+    let args = c .before .before .before .before .before .before .before .before .before .args in (
+      search needs,
+      call .kept .0 ∙ loop .inv .1,
+      times-more _ _ _ (loop .inv .2) (call .ensures
+          ∙ ap (λ (x : ℕ). pageTurn (args .n) (args .d .0) (vectorIn (now (args .offered))) x (loop .book)) (c .before .before .before .nth .ensures)),
+    )
 
 returns : tie.Need-returns Inv-loop μ-loop
 unfolding settledAll

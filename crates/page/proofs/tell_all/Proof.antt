@@ -27,8 +27,13 @@ abbrev μ-loop : tie.MeasureT-loop
 
 loop-holds : tie.Need-loop-holds Inv-loop μ-loop
 loop-holds c =
-    let start = c .before .before .before in
-    (search needs, ap (λ (w : List ℕ). length w) (start .pre .6) ∙ length-replicate {A = ℕ} 64 0, refl, start .pre .6 ∙ page-none (λ k. told (start .args .n .depots) (stored (now (start .args .book)) (start .args .d .0) k)) (now (start .args .bearings)))
+    let start = c .before .before .before in (
+      search needs,
+      ap (λ (w : List ℕ). length w) (start .pre .6) ∙ length-replicate {A = ℕ} 64 0,
+      refl,
+      start .pre .6
+          ∙ page-none (λ k. told (start .args .n .depots) (stored (now (start .args .book)) (start .args .d .0) k)) (now (start .args .bearings)),
+    )
 
 bearing-at-requires : tie.Need-bearing-at-requires Inv-loop μ-loop
 bearing-at-requires c κs = (c .loop-test .taken, c .before .before .before .before .before .pre .5)
@@ -62,11 +67,13 @@ loop-again c =
       call .kept .1 .1 .1 .1 .0 ∙ loop .inv .1,
       call .kept .1 .1 .1 .1 .0 ∙ loop .inv .2,
       page-more _ _ (loop .i) (c .before .before .before .before .before .loop-test .taken) (list-size-in _ (start .pre .4) .1) (loop .inv .3)
-          (call .ensures ∙ ap (λ (k : ℕ). put (loop .words) (8 * loop .i) (toldWords (told (args .n .depots) (stored (now (args .book)) (args .d .0) k)))) (c .before .before .before .before .bearing-at .ensures)),
+          (call .ensures ∙ ap (λ (k : ℕ). put (loop .words) (8 * loop .i) (toldWords (told (args .n .depots) (stored (now (args .book)) (args .d .0) k))))
+          (c .before .before .before .before .bearing-at .ensures)),
     )
 
 returns : tie.Need-returns Inv-loop μ-loop
 returns c = page-done _ _ _ (c .loop-test .left) (c .before .loop .inv .3)
 
 pub tell-all-spec : {M : Type 1} → statement M
-tell-all-spec = tie.close (tie.spec Inv-loop μ-loop loop-holds bearing-at-requires mul-tell-one tell-one-requires (λ c. search needs) (λ c. search needs) loop-again (λ c. search needs) returns)
+tell-all-spec = tie.close (tie.spec Inv-loop μ-loop loop-holds bearing-at-requires mul-tell-one tell-one-requires (λ c. search needs) (λ c. search needs) loop-again
+    (λ c. search needs) returns)

@@ -18,7 +18,9 @@ returns c =
     let args = start .args in
     c .before .before .write-words .ensures
     ∙ ap (λ (w : List ℕ). put (now (args .words)) (args .at) w)
-    (c .before .before .before .before .before .told-words .ensures ∙ ap (λ (r : List ℕ). toldWords (told (args .n) r)) (part-from (now (args .book)) 9 (c .before .before .before .before .before .before .before .stored-at .ensures)))
+    (c .before .before .before .before .before .told-words .ensures ∙ ap (λ (r : List ℕ). toldWords (told (args .n) r))
+    (part-from (now (args .book)) 9 (c .before .before .before .before .before .before .before .stored-at .ensures)))
 
 pub tell-one-spec : {M : Type 1} → statement M
-tell-one-spec = tie.close (tie.spec (λ c κs. search needs) (λ c. search needs) (λ c. search needs) (λ c. search needs) (λ c. search needs) (λ c. search needs) (λ c κs. search needs) (λ c. search needs) (λ c κs. search needs) (λ c. search needs) returns)
+tell-one-spec = tie.close (tie.spec (λ c κs. search needs) (λ c. search needs) (λ c. search needs) (λ c. search needs) (λ c. search needs) (λ c. search needs) (λ c κs. search needs)
+    (λ c. search needs) (λ c κs. search needs) (λ c. search needs) returns)
