@@ -96,6 +96,7 @@ impl Refusal {
             Refusal::BadCounts => "BAD COUNTS",
             Refusal::NotHereYet => "NOT HERE YET",
             Refusal::BadCard => "BAD CARD",
+            Refusal::BadList => "BAD LIST",
             Refusal::BadDate => "BAD DATE",
         }
     }
