@@ -1,0 +1,7 @@
+pub mod RecordLaws
+pub mod Theorems
+pub mod OnlyRecords
+pub mod Histories
+pub mod OneJournal
+pub mod Cuts
+pub mod Worked

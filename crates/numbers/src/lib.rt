@@ -1,0 +1,1 @@
+// Lists of numbers as bytes, four of them each. Specs and proofs only.
