@@ -8,9 +8,18 @@ use mathlib.Core.List.{List, [], _∷_, _++_, append-assoc}
 use lib.ListN.{length, getD, take, drop, length-append}
 use lib.Seq.{take-add, drop-drop, getD-take, getD-drop}
 use Rattle.book.specs.Words.{part}
-use Rattle.wire.specs.Wire.{byteLimit, wordLimit, wordBytes, wordAt, Below}
+use Rattle.wire.specs.Wire.{byteLimit, wordLimit, wordBytes, wordOf, wordAt, Below}
 use Rattle.wire.proofs.WireLaws.{Stands, stands-left, stands-right, word-stands, word-read, word-small, below-none, below-more}
 use Rattle.numbers.specs.Numbers.{bytesOf, wordsAt}
+
+-- an example: 1 and 258
+pub two-numbers : bytesOf (1 ∷ 258 ∷ []) ≡ 1 ∷ 0 ∷ 0 ∷ 0 ∷ 2 ∷ 1 ∷ 0 ∷ 0 ∷ []
+unfolding bytesOf wordBytes
+two-numbers = refl
+
+pub two-read : wordsAt (1 ∷ 0 ∷ 0 ∷ 0 ∷ 2 ∷ 1 ∷ 0 ∷ 0 ∷ []) 0 2 ≡ 1 ∷ 258 ∷ []
+unfolding wordsAt wordAt wordOf
+two-read = refl
 
 word-long : (w : ℕ) → length (wordBytes w) ≡ 4
 unfolding wordBytes
