@@ -43,6 +43,10 @@ fn call(book: &mut [u32], text: &[u8]) -> Result<String, Refusal> {
             calls::setup(book, *depots, *shelves, *bearings, *crews, homes).map(|()| nothing)
         }
         (b'R', [crew, bearing]) => calls::read(book, *crew, *bearing).map(|reading| told(&reading, Counts::of(book).depots)),
+        (b'L', [crew, bearings @ ..]) => calls::list(book, *crew, bearings).map(|readings| {
+            let depots = Counts::of(book).depots;
+            readings.iter().map(|reading| told(reading, depots)).collect()
+        }),
         (b'W', [crew, bearing, value, diameter, width]) => calls::write(book, *crew, *bearing, *value, *diameter, *width)
             .map(|written| format!(" {} {}", written.stamp, if written.current { "C" } else { "S" })),
         (b'K', [depot, shelf]) => calls::tick(book, *depot, *shelf).map(|()| nothing),

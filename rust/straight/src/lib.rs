@@ -28,7 +28,9 @@ mod looks;
 mod order;
 
 pub use audit::{audit, audit_lines, Verdict, ENTRY, MOST_ENTRIES, READ_ENTRY, WRITE_ENTRY};
-pub use calls::{below, move_crew, read, refresh, setup, take, tick, vector, who_has, write, Reading, Written};
+pub use calls::{
+    below, list, move_crew, read, refresh, setup, take, tick, vector, who_has, write, Reading, Written, LONGEST_LIST,
+};
 pub use card::{grams, is_card};
 pub use desk::{desk, line, LONGEST_LINE};
 pub use fit::{counts_and_homes, is_fit};
@@ -59,5 +61,6 @@ pub enum Refusal {
     NotHereYet = 12,
     BadLine = 13,
     BadCard = 14,
+    BadList = 15,
     BadDate = 16,
 }
