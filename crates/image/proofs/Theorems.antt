@@ -2,51 +2,33 @@
 -- Assumes nothing.
 use Prim.Native.Nat.{ℕ, _+_, _*_, _<_}
 use native.Mathlib.Omega.{arith}
-use mathlib.Core.Path.{_≡_, refl, sym, _∙_, ap, ap₂, subst}
-use mathlib.Core.Bool.{Bool, true, false, _&&_, not, false≢true}
+use mathlib.Core.Path.{_≡_, sym, _∙_, ap, ap₂, subst}
+use mathlib.Core.Bool.{true, false, not}
 use mathlib.Core.List.{List, [], _∷_, _++_}
-use lib.Dec.{eqb, lit<}
+use lib.Dec.{eqb, ltb, lit<}
 use lib.ListN.{length, getD, take, drop, take-append-drop, length-append, length-drop}
 use lib.Seq.{take-all}
-use borrow.Author.Tests.{eqb-true, eq-eqb, not-false}
-use Rattle.loops.specs.Loops.{pick}
-use Rattle.loops.proofs.BoolLaws.{pick-true, pick-false, and-left, and-right, and-intro}
-use Rattle.paper.specs.Calls.{first}
-use Rattle.book.specs.Words.{part}
-use Rattle.book.specs.Layout.{bookWords, countsOf}
+use borrow.Author.Tests.{eqb-true, eq-eqb, ltb-false, not-false}
+use Rattle.loops.proofs.BoolLaws.{pick-true, and-left, and-right, and-intro, not-failed}
+use Rattle.paper.specs.Calls.{here, later, otherwise}
+use Rattle.book.specs.Words.{part, put}
+use Rattle.book.specs.Layout.{bookWords}
+use Rattle.book.proofs.WordsLaws.{put-same}
 use Rattle.fit.specs.Fit.{fit}
 use Rattle.register.proofs.Numbers.{first-passed}
+use Rattle.register.proofs.TableLaws.{says-first}
 use Rattle.wire.specs.Wire.{byteLimit, wordLimit, Below}
 use Rattle.wire.proofs.WireLaws.{Stands, stands-all, stands-left, stands-right, below-more, below-none}
 use Rattle.numbers.specs.Numbers.{bytesOf, wordsAt}
-use Rattle.numbers.proofs.NumberLaws.{length-bytes, length-words, words-stand, bytes-read, words-small, bytes-append}
-use Rattle.image.specs.Image.{imageBytes, imageHead, imageOf, bookIn, same, headRight, saveNumber, loadNumber, loaded, ImageOf}
-
-same-is : (u v : List ℕ) → same u v ≡ true → u ≡ v
-unfolding same
-same-is [] [] h = refl
-same-is [] (b ∷ v) h = absurd (false≢true h)
-same-is (a ∷ u) [] h = absurd (false≢true h)
-same-is (a ∷ u) (b ∷ v) h =
-    ap₂ (λ (x : ℕ) (l : List ℕ). x ∷ l) (eqb-true a b (and-left (eqb a b) (same u v) h)) (same-is u v (and-right (eqb a b) (same u v) h))
-
-same-self : (u : List ℕ) → same u u ≡ true
-unfolding same
-same-self [] = refl
-same-self (a ∷ u) = and-intro (eq-eqb a a refl) (same-self u)
-
-fit-long : (l : List ℕ) → fit l ≡ true → length l ≡ bookWords
-unfolding fit
-fit-long l h = eqb-true _ _ (and-left (eqb (length l) bookWords) _ h)
-
-head-long : (l : List ℕ) → length (imageHead l) ≡ 8
-unfolding imageHead
-head-long l = refl
-
-not-true : {b : Bool} → b ≡ true → not b ≡ false
-not-true h = ap not h
+use Rattle.numbers.proofs.NumberLaws.{length-bytes, words-stand, bytes-read, words-small, bytes-append}
+use Rattle.image.specs.Image.{imageBytes, imageHead, imageOf, bookIn, same, headRight, saveNumber, loadNumber, saved, loaded, ImageOf}
+use Rattle.image.proofs.ImageLaws.{fit-long, head-long, not-true, same-is, same-self}
 
 -- ---- the image of a book of words
+
+image-long : (l : List ℕ) → length l ≡ bookWords → length (imageOf l) ≡ imageBytes
+unfolding imageOf
+image-long l h = length-bytes (imageHead l ++ l) ∙ omega (arith, length-append (imageHead l) l, head-long l)
 
 module _ (l : List ℕ) (w : Below wordLimit l) where
   head-small : Below wordLimit (imageHead l)
@@ -77,23 +59,17 @@ module _ (l : List ℕ) (w : Below wordLimit l) where
     unfolding bookIn
     book-back = ap (wordsAt (imageOf l) 32) (sym h) ∙ words-stand (imageOf l) 32 l w book-stands
 
-    image-long : length (imageOf l) ≡ imageBytes
-    unfolding imageOf
-    image-long = length-bytes (imageHead l ++ l) ∙ omega (arith, length-append (imageHead l) l, head-long l)
-
     header-back : headRight (imageOf l) ≡ true
     unfolding headRight
-    header-back = and-intro (eq-eqb _ _ image-long) (ap₂ same head-back (ap imageHead book-back) ∙ same-self (imageHead l))
+    header-back = and-intro (eq-eqb _ _ (image-long l h)) (ap₂ same head-back (ap imageHead book-back) ∙ same-self (imageHead l))
 
   -- it loads as that book, into whatever stood there
   pub image-back : fit l ≡ true → (m : List ℕ) → length m ≡ bookWords → (loadNumber (imageOf l) (length m) ≡ 0) × (loaded (imageOf l) m ≡ l)
-  unfolding loadNumber loaded first
+  unfolding loadNumber loaded
   image-back g m long =
       let h = fit-long l g in
-      let a : not (eqb (length m) bookWords) ≡ false = not-true (eq-eqb _ _ long) in
-      let b : not (headRight (imageOf l)) ≡ false = not-true (header-back h) in
-      let c : not (fit (bookIn (imageOf l))) ≡ false = not-true (ap fit (book-back h) ∙ g) in
-      let z : loadNumber (imageOf l) (length m) ≡ 0 = pick-false _ _ a ∙ pick-false _ _ b ∙ pick-false _ _ c in
+      let z : loadNumber (imageOf l) (length m) ≡ 0 =
+      says-first (later (not-true (eq-eqb _ _ long)) (later (not-true (header-back h)) (later (not-true (ap fit (book-back h) ∙ g)) otherwise))) in
       (z, pick-true _ _ (eq-eqb _ _ z) ∙ book-back h)
 
 -- two books with one image are the same
@@ -140,5 +116,27 @@ image-only f l b z =
 
 -- an unfit book is refused
 pub unfit-refused : (l : List ℕ) (n : ℕ) → fit l ≡ false → saveNumber l n ≡ 1
-unfolding saveNumber first
-unfit-refused l n h = pick-true _ _ (ap not h)
+unfolding saveNumber
+unfit-refused l n h = says-first (here (not-failed h))
+
+module _ (l o : List ℕ) (z : saveNumber l (length o) ≡ 0) where
+  -- what is saved is fit and has room, and its image stands in the buffer from the first byte on
+  pub save-fit : fit l ≡ true
+  unfolding saveNumber
+  save-fit = not-false _ (first-passed (not (fit l)) 1 _ (omega arith) z .0)
+
+  pub saved-image : take imageBytes (saved l o) ≡ imageOf l
+  unfolding saveNumber saved part
+  saved-image =
+      let p = first-passed (not (fit l)) 1 _ (omega arith) z in
+      let q = first-passed (ltb (length o) imageBytes) 100 _ (omega arith) (p .1) in
+      let long = image-long l (fit-long l save-fit) in
+      ap (take imageBytes) (pick-true _ _ (eq-eqb _ _ z))
+      ∙ ap (λ (n : ℕ). take n (put o 0 (imageOf l))) (sym long)
+      ∙ put-same o 0 (imageOf l) (omega (arith, ltb-false (length o) imageBytes (q .0), long))
+
+  -- and it loads as the book that was saved
+  pub saved-back :
+      Below wordLimit l → (m : List ℕ) → length m ≡ bookWords → (loadNumber (take imageBytes (saved l o)) (length m) ≡ 0) × (loaded (take imageBytes (saved l o)) m ≡ l)
+  saved-back w m long =
+      subst (λ (f : List ℕ). (loadNumber f (length m) ≡ 0) × (loaded f m ≡ l)) (sym saved-image) (image-back l w save-fit m long)
