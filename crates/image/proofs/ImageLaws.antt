@@ -71,9 +71,9 @@ bytes-one : (w : ℕ) → bytesOf (w ∷ []) ≡ wordBytes w
 unfolding bytesOf wordBytes
 bytes-one w = refl
 
-pub bytes-none : (o : List ℕ) (at : ℕ) (ws : List ℕ) → o ≡ put o at (bytesOf (take 0 ws))
+pub bytes-none : (o : List ℕ) (at : ℕ) → o ≡ put o at (bytesOf [])
 unfolding put bytesOf
-bytes-none o at ws = refl
+bytes-none o at = refl
 
 pub bytes-step :
     (o : List ℕ) (at : ℕ) (ws : List ℕ) (i : ℕ) {b b′ : List ℕ} → i < length ws → b ≡ put o at (bytesOf (take i ws)) → b′ ≡ put b (at + 4 * i) (wordBytes (getD ws i 0)) →
@@ -141,17 +141,18 @@ module _ (l o : List ℕ) where
     unfolding saveNumber
     save-short k = save-refused (says-first (later (not-true h) (here (lt-ltb _ _ k)))) refl
 
-    pub save-done : {a b : List ℕ} → imageBytes ≤ length o → a ≡ put o 0 (bytesOf (imageHead l)) → b ≡ put a 32 (bytesOf l) → Saving l o 0 b
+    pub save-done : {e a b : List ℕ} → imageBytes ≤ length o → e ≡ imageHead l → a ≡ put o 0 (bytesOf e) → b ≡ put a 32 (bytesOf l) → Saving l o 0 b
     unfolding saveNumber saved imageOf
-    save-done k p q =
+    save-done k g p q =
         let z : saveNumber l (length o) ≡ 0 = says-first (later (not-true h) (later (le-ltb _ _ k) otherwise)) in
-        let behind : 32 ≡ 0 + length (bytesOf (imageHead l)) = omega (arith, length-bytes (imageHead l), head-long l) in
+        let first : List ℕ = bytesOf (imageHead l) in
+        let behind : 32 ≡ 0 + length first = omega (arith, length-bytes (imageHead l), head-long l) in
         record {
           answer = sym z;
           buffer =
               q
-              ∙ ap₂ (λ (x : List ℕ) (n : ℕ). put x n (bytesOf l)) p behind
-              ∙ put-append o 0 (bytesOf (imageHead l)) (bytesOf l)
+              ∙ ap₂ (λ (x : List ℕ) (n : ℕ). put x n (bytesOf l)) (p ∙ ap (λ (x : List ℕ). put o 0 (bytesOf x)) g) behind
+              ∙ put-append o 0 first (bytesOf l)
               ∙ ap (put o 0) (sym (bytes-append (imageHead l) l))
               ∙ sym (pick-true _ _ (eq-eqb _ _ z));
         }
