@@ -9,7 +9,7 @@ use mathlib.Core.Path.{_≡_, refl, sym, _∙_, ap, ap₂, subst}
 use mathlib.Core.Bool.{Bool, true, false, _&&_, not, false≢true}
 use mathlib.Core.List.{List, [], _∷_, _++_}
 use lib.Dec.{eqb}
-use lib.ListN.{length, getD, set, take}
+use lib.ListN.{length, getD, set, take, replicate, length-replicate}
 use lib.Seq.{take-all, take-suc, length-take-le, ext-getD}
 use borrow.Author.Tests.{eqb-true, eq-eqb, ne-eqb, lt-ltb, le-ltb}
 use Rattle.loops.specs.Loops.{pick}
@@ -158,6 +158,11 @@ module _ (l o : List ℕ) where
         }
 
 -- ---- what loading answers
+
+-- words that were read over a book of zeros are the image's
+pub book-read : (f : List ℕ) {w : List ℕ} → w ≡ wordsAt f 32 (length {A = ℕ} (replicate bookWords 0)) → w ≡ bookIn f
+unfolding bookIn
+book-read f p = p ∙ ap (wordsAt f 32) (length-replicate {A = ℕ} bookWords 0)
 
 module _ (l f : List ℕ) where
   load-refused : {n : ℕ} → loadNumber f (length l) ≡ n → eqb n 0 ≡ false → Loading l f n l

@@ -115,3 +115,26 @@ pub fn save(book: &[u32], out: &mut [u8]) -> u32
     put_words(out, HEAD_BYTES, book);
     0
 }
+
+// The book becomes that of an image, any bytes. Refuses, in this order: NO ROOM, where the book lent has another length, BAD IMAGE, BAD BOOK. The image's
+// words are judged in a place of their own, so a refusal moves no word of the book.
+pub fn load(book: &mut [u32], image: &[u8]) -> u32
+    ensures { λ r. ⌜ Loading (now (book .entry)) (now (image .entry)) r (now (book .exit)) ⌝ }
+{
+    if book.len() != BOOK_WORDS {
+        return NO_ROOM;
+    }
+    if image.len() != IMAGE_BYTES {
+        return BAD_IMAGE;
+    }
+    let mut words = [0u32; BOOK_WORDS];
+    read_words(image, HEAD_BYTES, &mut words);
+    if !head_is(image, &words) {
+        return BAD_IMAGE;
+    }
+    if !is_fit(&words) {
+        return BAD_BOOK;
+    }
+    write_words(book, 0, &words);
+    0
+}
