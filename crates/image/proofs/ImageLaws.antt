@@ -1,30 +1,26 @@
--- The laws of an image's parts: its header, numbers that are the same, numbers put as bytes one by one and read from them one by one; and what saving
--- and loading answer at each check.
+-- The laws of an image's parts: its header, and numbers that are the same; and what saving and loading answer at each check.
 -- Assumes nothing.
-use Prim.Native.Nat.{ℕ, zero, suc, _+_, _*_, _≤_, _<_}
+use Prim.Native.Nat.{ℕ, _+_, _≤_, _<_}
 use native.Mathlib.Omega.{arith}
 use native.Mathlib.Numerals.{add-one}
-use native.Mathlib.Nat.{le-of-lt}
-use mathlib.Core.Path.{_≡_, refl, sym, _∙_, ap, ap₂, subst}
+use mathlib.Core.Path.{_≡_, refl, sym, _∙_, ap, ap₂}
 use mathlib.Core.Bool.{Bool, true, false, _&&_, not, false≢true}
 use mathlib.Core.List.{List, [], _∷_, _++_}
 use lib.Dec.{eqb}
-use lib.ListN.{length, getD, set, take, replicate, length-replicate}
-use lib.Seq.{take-all, take-suc, length-take-le, ext-getD}
+use lib.ListN.{length, getD, take, replicate, length-replicate}
+use lib.Seq.{take-all, take-suc}
 use borrow.Author.Tests.{eqb-true, eq-eqb, ne-eqb, lt-ltb, le-ltb}
-use Rattle.loops.specs.Loops.{pick}
 use Rattle.loops.proofs.BoolLaws.{pick-true, pick-false, failed, and-left, and-right, and-intro, and-next, and-stop, not-failed}
 use Rattle.paper.specs.Calls.{here, later, otherwise}
 use Rattle.book.specs.Words.{put}
-use Rattle.book.specs.Layout.{bookWords, countsOf}
-use Rattle.book.proofs.WordsLaws.{length-put, put-in, put-step}
+use Rattle.book.specs.Layout.{bookWords}
 use Rattle.fit.specs.Fit.{fit}
 use Rattle.room.specs.Room.{noRoom}
 use Rattle.register.proofs.TableLaws.{says-first}
-use Rattle.wire.specs.Wire.{wordBytes, wordAt}
 use Rattle.wire.proofs.WireLaws.{put-append}
 use Rattle.numbers.specs.Numbers.{bytesOf, wordsAt}
-use Rattle.numbers.proofs.NumberLaws.{length-bytes, length-words, bytes-append}
+use Rattle.numbers.proofs.NumberLaws.{length-bytes, bytes-append}
+use Rattle.numbers.proofs.OneByOne.{put-whole}
 use Rattle.image.specs.Image.{imageBytes, badImage, imageHead, imageOf, bookIn, same, headRight, saveNumber, loadNumber, saved, loaded, Saving, Loading}
 
 -- ---- a header, and numbers that are the same
@@ -64,63 +60,6 @@ module _ (u v : List ℕ) (i : ℕ) where
 
   pub same-not : (getD u i 0 ≡ getD v i 0 → ⊥) → false ≡ same u v
   same-not d = sym (failed _ (λ (h : same u v ≡ true). d (ap (λ (l : List ℕ). getD l i 0) (same-is u v h))))
-
--- ---- numbers put as bytes
-
-bytes-one : (w : ℕ) → bytesOf (w ∷ []) ≡ wordBytes w
-unfolding bytesOf wordBytes
-bytes-one w = refl
-
-pub bytes-none : (o : List ℕ) (at : ℕ) → o ≡ put o at (bytesOf [])
-unfolding put bytesOf
-bytes-none o at = refl
-
-pub bytes-step :
-    (o : List ℕ) (at : ℕ) (ws : List ℕ) (i : ℕ) {b b′ : List ℕ} → i < length ws → b ≡ put o at (bytesOf (take i ws)) → b′ ≡ put b (at + 4 * i) (wordBytes (getD ws i 0)) →
-    b′ ≡ put o at (bytesOf (take (i + 1) ws))
-bytes-step o at ws i h p q =
-    let front : List ℕ = bytesOf (take i ws) in
-    let w : ℕ = getD ws i 0 in
-    let size : 4 * i ≡ length front = sym (length-bytes (take i ws) ∙ ap (λ (n : ℕ). 4 * n) (length-take-le i ws (le-of-lt h))) in
-    q
-    ∙ ap₂ (λ (x : List ℕ) (n : ℕ). put x (at + n) (wordBytes w)) p size
-    ∙ put-append o at front (wordBytes w)
-    ∙ ap (put o at)
-    (ap (λ (x : List ℕ). front ++ x) (sym (bytes-one w)) ∙ sym (bytes-append (take i ws) (w ∷ [])) ∙ ap bytesOf (sym (ap (λ (n : ℕ). take n ws) (add-one i) ∙ take-suc ws i 0 h)))
-
-pub bytes-all : (o : List ℕ) (at : ℕ) (ws : List ℕ) (i : ℕ) {b : List ℕ} → length ws ≤ i → b ≡ put o at (bytesOf (take i ws)) → b ≡ put o at (bytesOf ws)
-bytes-all o at ws i h p = p ∙ ap (λ (x : List ℕ). put o at (bytesOf x)) (take-all i ws h)
-
--- ---- numbers read from bytes
-
-words-more : (f : List ℕ) (at i : ℕ) → wordsAt f at (suc i) ≡ wordsAt f at i ++ wordAt f (at + 4 * i) ∷ []
-unfolding wordsAt
-words-more f at zero = ap (λ (n : ℕ). wordAt f n ∷ []) (omega arith)
-words-more f at (suc i) =
-    ap (λ (x : List ℕ). wordAt f at ∷ x) (words-more f (at + 4) i ∙ ap (λ (n : ℕ). wordsAt f (at + 4) i ++ wordAt f n ∷ []) (omega arith))
-
-pub words-none : (f : List ℕ) (at : ℕ) (o : List ℕ) → o ≡ put o 0 (wordsAt f at 0)
-unfolding put wordsAt
-words-none f at o = refl
-
-pub words-step : (f : List ℕ) (at i : ℕ) (o : List ℕ) {b : List ℕ} {w : ℕ} → b ≡ put o 0 (wordsAt f at i) → w ≡ wordAt f (at + 4 * i) → set b i w ≡ put o 0 (wordsAt f at (i + 1))
-words-step f at i o {b} p e =
-    let z : i ≡ 0 + i = omega arith in
-    ap₂ (λ (n x : ℕ). set b n x) z e
-    ∙ put-step o 0 (wordsAt f at i) i (wordAt f (at + 4 * i)) (length-words f at i) p
-    ∙ ap (put o 0) (sym (ap (wordsAt f at) (add-one i) ∙ words-more f at i))
-
--- words that are put over all of a list
-put-whole : (l v : List ℕ) → length v ≡ length l → put l 0 v ≡ v
-put-whole l v e =
-    ext-getD 0 (put l 0 v) v (length-put l 0 v ∙ sym e) λ i h.
-    let z : i ≡ 0 + i = omega arith in
-    ap (λ (n : ℕ). getD (put l 0 v) n 0) z ∙ put-in l 0 v (omega arith) i (omega (arith, length-put l 0 v))
-
-pub words-all : (f : List ℕ) (at i : ℕ) (o : List ℕ) {b : List ℕ} → i ≤ length o → length o ≤ i → b ≡ put o 0 (wordsAt f at i) → b ≡ wordsAt f at (length o)
-words-all f at i o h k p =
-    let e : i ≡ length o = omega arith in
-    p ∙ put-whole o (wordsAt f at i) (length-words f at i ∙ e) ∙ ap (wordsAt f at) e
 
 -- ---- what saving answers
 

@@ -5,16 +5,14 @@ use book::layout::CREWS;
 use book::layout::DEPOTS;
 use book::layout::SHELVES;
 use book::words::write_words;
+use numbers::put_words;
+use numbers::read_words;
 use room::NO_ROOM;
 use whole::is_fit;
-use wire::put_word;
-use wire::word_at;
 ghost use mathlib.Core.Path.{_≡_};
-ghost use Prim.Native.Nat.{_+_, _*_, _≤_};
 ghost use lib.ListN.{length};
-ghost use Rattle.book.specs.Words.{put};
 ghost use Rattle.book.specs.Layout.{bookWords};
-ghost use Rattle.numbers.specs.Numbers.{bytesOf, wordsAt};
+ghost use Rattle.numbers.specs.Numbers.{wordsAt};
 ghost use Rattle.image.specs.Image.{imageBytes, imageHead, same, Saving, Loading};
 
 // How many bytes an image has.
@@ -32,30 +30,6 @@ const MARK: u32 = 826756425;
 pub const BAD_BOOK: u32 = 1;
 
 pub const BAD_IMAGE: u32 = 112;
-
-// The bytes of the words stand from `at` on.
-fn put_words(out: &mut [u8], at: usize, words: &[u32])
-    requires { ⌜ at + 4 * length (now words) ≤ length (now out) ⌝ }
-    ensures { λ r. ⌜ now (out .exit) ≡ put (now (out .entry)) at (bytesOf (now (words .entry))) ⌝ }
-{
-    let mut i = 0;
-    while i < words.len() {
-        put_word(out, at + 4 * i, words[i]);
-        i += 1;
-    }
-}
-
-// The words are those that the bytes from `at` on are.
-fn read_words(bytes: &[u8], at: usize, words: &mut [u32])
-    requires { ⌜ at + 4 * length (now words) ≤ length (now bytes) ⌝ }
-    ensures { λ r. ⌜ now (words .exit) ≡ wordsAt (now (bytes .entry)) at (length (now (words .entry))) ⌝ }
-{
-    let mut i = 0;
-    while i < words.len() {
-        words[i] = word_at(bytes, at + 4 * i);
-        i += 1;
-    }
-}
 
 // Whether two runs of words, as long as each other, are the same.
 fn same_words(a: &[u32], b: &[u32]) -> bool

@@ -1,4 +1,4 @@
--- `image::put_words` meets its contract. The loop's invariant: the bytes of the words passed stand in the buffer.
+-- `numbers::put_words` meets its contract. The loop's invariant: the bytes of the words passed stand in the buffer.
 -- Assumes nothing.
 use Prim.Native.Nat.{_≤_, _-_}
 use mathlib.Core.Path.{_≡_, _∙_, refl, ap}
@@ -6,10 +6,10 @@ use lib.ListN.{length, take}
 use borrow.Author.Needs.{needs}
 use Rattle.book.specs.Words.{put}
 use Rattle.book.proofs.WordsLaws.{length-put}
 use Rattle.numbers.specs.Numbers.{bytesOf}
-use Rattle.image.proofs.ImageLaws.{bytes-none, bytes-step, bytes-all}
-use Rattle.image.proofs.put_words.Statement.{statement}
-use Rattle.image.proofs.put_words.Tie as tie
+use Rattle.numbers.proofs.OneByOne.{bytes-none, bytes-step, bytes-all}
+use Rattle.numbers.proofs.put_words.Statement.{statement}
+use Rattle.numbers.proofs.put_words.Tie as tie
 
 abbrev Inv-loop : tie.InvT-loop
 Inv-loop out₀ at words i₀ out i = (i ≤ length words) × (length out ≡ length out₀) × (out ≡ put out₀ at (bytesOf (take i words)))

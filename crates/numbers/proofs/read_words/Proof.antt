@@ -1,14 +1,14 @@
--- `image::read_words` meets its contract. The loop's invariant: the words passed are those of the bytes.
+-- `numbers::read_words` meets its contract. The loop's invariant: the words passed are those of the bytes.
 -- Assumes nothing.
 use Prim.Native.Nat.{_≤_, _-_}
 use mathlib.Core.Path.{_≡_, _∙_, refl}
 use lib.ListN.{length, length-set}
 use borrow.Author.Needs.{needs}
 use Rattle.book.specs.Words.{put}
 use Rattle.numbers.specs.Numbers.{wordsAt}
-use Rattle.image.proofs.ImageLaws.{words-none, words-step, words-all}
-use Rattle.image.proofs.read_words.Statement.{statement}
-use Rattle.image.proofs.read_words.Tie as tie
+use Rattle.numbers.proofs.OneByOne.{words-none, words-step, words-all}
+use Rattle.numbers.proofs.read_words.Statement.{statement}
+use Rattle.numbers.proofs.read_words.Tie as tie
 
 abbrev Inv-loop : tie.InvT-loop
 Inv-loop bytes at words₀ i₀ words i = (i ≤ length words₀) × (length words ≡ length words₀) × (words ≡ put words₀ 0 (wordsAt bytes at i))
