@@ -7,7 +7,7 @@ use mathlib.Core.Path.{_≡_, refl, sym, _∙_, ap, ap₂}
 use mathlib.Core.Bool.{Bool, true, false, _&&_, not, false≢true}
 use mathlib.Core.List.{List, [], _∷_, _++_}
 use lib.Dec.{eqb}
-use lib.ListN.{length, getD, take, replicate, length-replicate}
+use lib.ListN.{length, getD, take}
 use lib.Seq.{take-all, take-suc}
 use borrow.Author.Tests.{eqb-true, eq-eqb, ne-eqb, lt-ltb, le-ltb}
 use Rattle.loops.proofs.BoolLaws.{pick-true, pick-false, failed, and-left, and-right, and-intro, and-next, and-stop, not-failed}
@@ -98,10 +98,10 @@ module _ (l o : List ℕ) where
 
 -- ---- what loading answers
 
--- words that were read over a book of zeros are the image's
-pub book-read : (f : List ℕ) {w : List ℕ} → w ≡ wordsAt f 32 (length {A = ℕ} (replicate bookWords 0)) → w ≡ bookIn f
+-- words that were read over as many as a book has are the image's
+pub book-read : (f : List ℕ) {n : ℕ} {w : List ℕ} → n ≡ bookWords → w ≡ wordsAt f 32 n → w ≡ bookIn f
 unfolding bookIn
-book-read f p = p ∙ ap (wordsAt f 32) (length-replicate {A = ℕ} bookWords 0)
+book-read f h p = p ∙ ap (wordsAt f 32) h
 
 module _ (l f : List ℕ) where
   load-refused : {n : ℕ} → loadNumber f (length l) ≡ n → eqb n 0 ≡ false → Loading l f n l

@@ -90,8 +90,23 @@ pub fn save(book: &[u32], out: &mut [u8]) -> u32
     0
 }
 
-// The book becomes that of an image, any bytes. Refuses, in this order: NO ROOM, where the book lent has another length, BAD IMAGE, BAD BOOK. The image's
-// words are judged in a place of their own, so a refusal moves no word of the book.
+// Loads an image of the right length by way of `words`, where its book is judged: so a refusal moves no word of the book lent.
+fn load_judged(book: &mut [u32], image: &[u8], words: &mut [u32]) -> u32
+    requires { ⌜ (length (now book) ≡ bookWords) × (length (now image) ≡ imageBytes) × (length (now words) ≡ bookWords) ⌝ }
+    ensures { λ r. ⌜ Loading (now (book .entry)) (now (image .entry)) r (now (book .exit)) ⌝ }
+{
+    read_words(image, HEAD_BYTES, words);
+    if !head_is(image, words) {
+        return BAD_IMAGE;
+    }
+    if !is_fit(words) {
+        return BAD_BOOK;
+    }
+    write_words(book, 0, words);
+    0
+}
+
+// The book becomes that of an image, any bytes. Refuses, in this order: NO ROOM, where the book lent has another length; BAD IMAGE; BAD BOOK.
 pub fn load(book: &mut [u32], image: &[u8]) -> u32
     ensures { λ r. ⌜ Loading (now (book .entry)) (now (image .entry)) r (now (book .exit)) ⌝ }
 {
@@ -102,13 +117,5 @@ pub fn load(book: &mut [u32], image: &[u8]) -> u32
         return BAD_IMAGE;
     }
     let mut words = [0u32; BOOK_WORDS];
-    read_words(image, HEAD_BYTES, &mut words);
-    if !head_is(image, &words) {
-        return BAD_IMAGE;
-    }
-    if !is_fit(&words) {
-        return BAD_BOOK;
-    }
-    write_words(book, 0, &words);
-    0
+    load_judged(book, image, &mut words)
 }
