@@ -98,6 +98,11 @@ module _ (l o : List ℕ) where
 
 -- ---- what loading answers
 
+-- an image is accepted for a book of the right length, if its header is right and its book is fit
+pub accepts : (f : List ℕ) (n : ℕ) → n ≡ bookWords → headRight f ≡ true → fit (bookIn f) ≡ true → loadNumber f n ≡ 0
+unfolding loadNumber
+accepts f n h p q = says-first (later (not-true (eq-eqb _ _ h)) (later (not-true p) (later (not-true q) otherwise)))
+
 -- words that were read over as many as a book has are the image's
 pub book-read : (f : List ℕ) {n : ℕ} {w : List ℕ} → n ≡ bookWords → w ≡ wordsAt f 32 n → w ≡ bookIn f
 unfolding bookIn
@@ -139,8 +144,7 @@ module _ (l f : List ℕ) where
             refl
 
         pub load-done : {b : List ℕ} → fit w ≡ true → b ≡ put l 0 w → Loading l f 0 b
-        unfolding loadNumber loaded
+        unfolding loaded
         load-done q r =
-            let z : loadNumber f (length l) ≡ 0 =
-            says-first (later (not-true (eq-eqb _ _ h)) (later (not-true (right-is p)) (later (not-true (ap fit (sym e) ∙ q)) otherwise))) in
+            let z : loadNumber f (length l) ≡ 0 = accepts f (length l) h (right-is p) (ap fit (sym e) ∙ q) in
             record { answer = sym z; book = r ∙ put-whole l w (fit-long w q ∙ sym h) ∙ e ∙ sym (pick-true _ _ (eq-eqb _ _ z)) }

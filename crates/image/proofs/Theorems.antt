@@ -2,29 +2,37 @@
 -- Assumes nothing.
 use Prim.Native.Nat.{ℕ, _+_, _*_, _<_}
 use native.Mathlib.Omega.{arith}
-use mathlib.Core.Path.{_≡_, sym, _∙_, ap, ap₂, subst}
+use mathlib.Core.Path.{_≡_, refl, sym, _∙_, ap, ap₂, subst}
 use mathlib.Core.Bool.{true, false, not}
+use mathlib.Core.Logic.{_↔_}
 use mathlib.Core.List.{List, [], _∷_, _++_}
 use lib.Dec.{eqb, ltb, lit<}
 use lib.ListN.{length, getD, take, drop, take-append-drop, length-append, length-drop}
 use lib.Seq.{take-all}
 use borrow.Author.Tests.{eqb-true, eq-eqb, ltb-false, not-false}
 use Rattle.loops.proofs.BoolLaws.{pick-true, and-left, and-right, and-intro, not-failed}
-use Rattle.paper.specs.Calls.{here, later, otherwise}
+use Rattle.paper.specs.Calls.{here}
 use Rattle.book.specs.Words.{part, put}
 use Rattle.book.specs.Layout.{bookWords}
 use Rattle.book.proofs.WordsLaws.{put-same}
 use Rattle.fit.specs.Fit.{fit}
 use Rattle.register.proofs.Numbers.{first-passed}
 use Rattle.register.proofs.TableLaws.{says-first}
-use Rattle.wire.specs.Wire.{byteLimit, wordLimit, Below}
+use Rattle.wire.specs.Wire.{byteLimit, wordLimit, wordBytes, Below}
 use Rattle.wire.proofs.WireLaws.{Stands, stands-all, stands-left, stands-right, below-more, below-none}
 use Rattle.numbers.specs.Numbers.{bytesOf, wordsAt}
 use Rattle.numbers.proofs.NumberLaws.{length-bytes, words-stand, bytes-read, words-small, bytes-append}
 use Rattle.image.specs.Image.{imageBytes, imageHead, imageOf, bookIn, same, headRight, saveNumber, loadNumber, saved, loaded, ImageOf}
-use Rattle.image.proofs.ImageLaws.{fit-long, head-long, not-true, same-is, same-self}
+use Rattle.image.proofs.ImageLaws.{fit-long, head-long, same-is, same-self, accepts}
 
 -- ---- the image of a book of words
+
+-- an example, the one of docs/JOURNAL.md: the header of two depots with two shelves each, four bearings and two crews
+pub a-header :
+    (l : List ℕ) → bytesOf (imageHead (2 ∷ 2 ∷ 4 ∷ 2 ∷ l))
+    ≡ 73 ∷ 77 ∷ 71 ∷ 49 ∷ 2 ∷ 0 ∷ 0 ∷ 0 ∷ 2 ∷ 0 ∷ 0 ∷ 0 ∷ 4 ∷ 0 ∷ 0 ∷ 0 ∷ 2 ∷ 0 ∷ 0 ∷ 0 ∷ 0 ∷ 64 ∷ 0 ∷ 0 ∷ 32 ∷ 0 ∷ 0 ∷ 0 ∷ 32 ∷ 0 ∷ 1 ∷ 0 ∷ []
+unfolding imageHead bytesOf wordBytes
+a-header l = refl
 
 image-long : (l : List ℕ) → length l ≡ bookWords → length (imageOf l) ≡ imageBytes
 unfolding imageOf
@@ -65,11 +73,10 @@ module _ (l : List ℕ) (w : Below wordLimit l) where
 
   -- it loads as that book, into whatever stood there
   pub image-back : fit l ≡ true → (m : List ℕ) → length m ≡ bookWords → (loadNumber (imageOf l) (length m) ≡ 0) × (loaded (imageOf l) m ≡ l)
-  unfolding loadNumber loaded
+  unfolding loaded
   image-back g m long =
       let h = fit-long l g in
-      let z : loadNumber (imageOf l) (length m) ≡ 0 =
-      says-first (later (not-true (eq-eqb _ _ long)) (later (not-true (header-back h)) (later (not-true (ap fit (book-back h) ∙ g)) otherwise))) in
+      let z = accepts (imageOf l) (length m) long (header-back h) (ap fit (book-back h) ∙ g) in
       (z, pick-true _ _ (eq-eqb _ _ z) ∙ book-back h)
 
 -- two books with one image are the same
@@ -99,18 +106,26 @@ book-small : (f : List ℕ) → Below byteLimit f → Below wordLimit (bookIn f)
 unfolding bookIn
 book-small f b = words-small f 32 bookWords b
 
+-- a book of the right length is lent, the header is right and the image's book is fit: exactly then an image is accepted
+pub accepted-exactly : (f : List ℕ) (n : ℕ) → (loadNumber f n ≡ 0) ↔ ((n ≡ bookWords) × (headRight f ≡ true) × (fit (bookIn f) ≡ true))
+accepted-exactly f n = (passed f n, λ h. accepts f n (h .0) (h .1) (h .2))
+  where
+    passed : (f : List ℕ) (n : ℕ) → loadNumber f n ≡ 0 → (n ≡ bookWords) × (headRight f ≡ true) × (fit (bookIn f) ≡ true)
+    passed f n z = unfold loadNumber in
+        let p = first-passed (not (eqb n bookWords)) 100 _ (omega arith) z in
+        let q = first-passed (not (headRight f)) 112 _ (omega arith) (p .1) in
+        let r = first-passed (not (fit (bookIn f))) 1 _ (omega arith) (q .1) in
+        (eqb-true _ _ (not-false _ (p .0)), not-false _ (q .0), not-false _ (r .0))
+
 -- bytes that are accepted are the image of a fit book, and that is what they load as
 pub image-only : (f l : List ℕ) → Below byteLimit f → loadNumber f (length l) ≡ 0 → ImageOf f (loaded f l)
-unfolding loadNumber headRight
+unfolding headRight
 image-only f l b z =
-    let p = first-passed (not (eqb (length l) bookWords)) 100 _ (omega arith) z in
-    let q = first-passed (not (headRight f)) 112 _ (omega arith) (p .1) in
-    let r = first-passed (not (fit (bookIn f))) 1 _ (omega arith) (q .1) in
-    let h : headRight f ≡ true = not-false _ (q .0) in
-    let long = eqb-true (length f) imageBytes (and-left (eqb (length f) imageBytes) (same (wordsAt f 0 8) (imageHead (bookIn f))) h) in
-    let heads = same-is _ _ (and-right (eqb (length f) imageBytes) (same (wordsAt f 0 8) (imageHead (bookIn f))) h) in
+    let a = accepted-exactly f (length l) .0 z in
+    let long = eqb-true (length f) imageBytes (and-left (eqb (length f) imageBytes) (same (wordsAt f 0 8) (imageHead (bookIn f))) (a .1)) in
+    let heads = same-is _ _ (and-right (eqb (length f) imageBytes) (same (wordsAt f 0 8) (imageHead (bookIn f))) (a .1)) in
     subst (ImageOf f) (sym (is-loaded f l z))
-    (record { image = is-image f b long heads; fits = not-false _ (r .0); words = book-small f b })
+    (record { image = is-image f b long heads; fits = a .2; words = book-small f b })
 
 -- ---- saving
 
