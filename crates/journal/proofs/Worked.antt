@@ -7,27 +7,13 @@ use mathlib.Core.List.{List, [], _∷_}
 use lib.ListN.{length}
 use Rattle.loops.specs.Loops.{pick}
 use Rattle.paper.specs.Calls.{read, write, tick, take, refresh, move, list}
-use Rattle.upkeep.specs.Requests.{Request, setup, call}
+use Rattle.upkeep.specs.Requests.{setup, call}
 use Rattle.wire.specs.Wire.{wordBytes}
 use Rattle.numbers.specs.Numbers.{bytesOf}
 use Rattle.journal.specs.declared.recover.Fault.the-variants.{Refused, Strange}
 use Rattle.journal.specs.Record.{byteOf, kindOf, formOf, kindIn, numbersOf, countBy, headOf, recordBytes}
+use Rattle.journal.specs.Worked.{listing}
 use Rattle.journal.specs.Journal.{journal, wholeIn, within, stopped, endBy, endOf}
-
-unfoldable pub listing : List Request
-listing =
-    setup (record { depots = 2; shelves = 2; bearings = 4; crews = 2 }) (0 ∷ 1 ∷ [])
-    ∷ call (read 0 0)
-    ∷ call (write 0 0 (record { value = 20; diameter = 1065353216; width = 1065353216 }))
-    ∷ call (tick 0 1)
-    ∷ call (write 0 1 (record { value = 30; diameter = 1065353216; width = 1065353216 }))
-    ∷ call (take 1 0 0)
-    ∷ call (refresh 1 0)
-    ∷ call (read 1 0)
-    ∷ call (take 1 1 0)
-    ∷ call (refresh 1 0)
-    ∷ call (read 1 0)
-    ∷ []
 
 pub the-setup :
     recordBytes (setup (record { depots = 2; shelves = 2; bearings = 4; crews = 2 }) (0 ∷ 1 ∷ []))
