@@ -1,6 +1,6 @@
 -- The worked journal, recovered: the model computes the numbers of its requests, the bridge carries them over, and the theorems of recovery do the rest.
 -- Assumes nothing.
-use Prim.Native.Nat.{ℕ}
+use Prim.Native.Nat.{ℕ, suc}
 use native.Mathlib.Omega.{arith}
 use mathlib.Core.Path.{_≡_, refl, sym, _∙_, ap, ap₂, subst}
 use mathlib.Core.Bool.{Bool, true, false, _&&_, not}
@@ -125,3 +125,78 @@ list-refused = ap (map numberIn) (answers-computed cases.counts lawful lawful-ag
 
 row : {s t : Recovered} {n m k : ℕ} → s ≡ t → Row t n m k → Row s n m k
 row {n = n} {m = m} {k = k} e r = subst (λ (x : Recovered). Row x n m k) (sym e) r
+
+two : List Request
+two = setup (record { depots = 2; shelves = 2; bearings = 4; crews = 2 }) (0 ∷ 1 ∷ []) ∷ call (read 0 0) ∷ []
+
+three : List Request
+three = setup (record { depots = 2; shelves = 2; bearings = 4; crews = 2 }) (0 ∷ 1 ∷ []) ∷ call (read 0 0) ∷ call (write 0 0 (cases.day 20)) ∷ []
+
+-- a setup of three crews with two homes
+badSetup : Request
+badSetup = setup (record { depots = 2; shelves = 2; bearings = 4; crews = 3 }) (0 ∷ 1 ∷ [])
+
+bad-number : (l : List ℕ) → length l ≡ bookWords → numberAt l badSetup ≡ 11
+unfolding badSetup numberAt setupNumber first countsFit between pick every
+bad-number l full = ap (λ (b : Bool). pick (not b) 1 11) (eq-eqb (length l) bookWords full)
+
+other-than-none : {n k : ℕ} → n ≡ suc k → n ≡ 0 → ⊥
+other-than-none e f = omega arith
+
+module _ (l : List ℕ) (full : length l ≡ bookWords) where
+  all-done : Done l listing
+  unfolding listing tenCalls counts homes cases.counts cases.homes allSmall small numbersOf
+  all-done = done-by l listing [] [] (numbers-of l full tenCalls ∙ ap (λ (x : List ℕ). 0 ∷ x) ten-done) refl
+
+  three-numbers : numbersAt l (three ++ (refusedLine ∷ [])) ≡ replicate 3 0 ++ (8 ∷ [])
+  unfolding three counts homes cases.counts cases.homes
+  three-numbers = numbers-of l full (read 0 0 ∷ write 0 0 (cases.day 20) ∷ write 0 1 (cases.day 30) ∷ []) ∙ ap (λ (x : List ℕ). 0 ∷ x) third-waits
+
+  listed-numbers : numbersAt l (two ++ (call (list 0 (0 ∷ 1 ∷ [])) ∷ [])) ≡ replicate 3 0
+  unfolding two counts homes cases.counts cases.homes
+  listed-numbers = numbers-of l full (read 0 0 ∷ list 0 (0 ∷ 1 ∷ []) ∷ []) ∙ ap (λ (x : List ℕ). 0 ∷ x) list-done
+
+  unlisted-numbers : numbersAt l (two ++ (call (list 0 []) ∷ [])) ≡ replicate 2 0 ++ (15 ∷ [])
+  unfolding two counts homes cases.counts cases.homes
+  unlisted-numbers = numbers-of l full (read 0 0 ∷ list 0 [] ∷ []) ∙ ap (λ (x : List ℕ). 0 ∷ x) list-refused
+
+  two-done : Done l two
+  unfolding two allSmall small numbersOf
+  two-done = done-by l two (call (list 0 []) ∷ []) (15 ∷ []) unlisted-numbers refl
+
+  three-done : Done l three
+  unfolding three allSmall small numbersOf
+  three-done = done-by l three (refusedLine ∷ []) (8 ∷ []) three-numbers refl
+
+  listed-done : Done l (two ++ (call (list 0 (0 ∷ 1 ∷ [])) ∷ []))
+  unfolding two allSmall small numbersOf
+  listed-done = done-by l (two ++ (call (list 0 (0 ∷ 1 ∷ [])) ∷ [])) [] [] listed-numbers refl
+
+  pub worked-journal : baseFit l ≡ false → WorkedJournal l
+  unfolding listing two three badSetup journal recordBytes headOf kindIn formOf countBy numbersOf bytesOf wordBytes byteOf kindOf wholeIn restIn pick last endOf endBy small
+  worked-journal unset = record {
+    no-bytes = row (by-none l 0 0) (record { done = refl; bytes = refl; ended = refl });
+    first-25 = row (recovers-cut 25 all-done) (record { done = refl; bytes = refl; ended = refl });
+    no-record = ap (λ (s : Recovered). s .book) (recovers-cut 25 all-done);
+    first-26 = row (recovers-cut 26 all-done) (record { done = refl; bytes = refl; ended = refl });
+    first-27 = row (recovers-cut 27 all-done) (record { done = refl; bytes = refl; ended = refl });
+    waits =
+        let z : numberAt (last l three) refusedLine ≡ 8 = last-number l three refusedLine 8 three-numbers in
+        row (stops-refused three-done [] refusedLine (small-below (numbersOf refusedLine) refl) (other-than-none z)) (record { done = refl; bytes = refl; ended = z });
+    no-kind = λ f. row (stops-strange two-done f 9 refl) (record { done = refl; bytes = refl; ended = refl });
+    list-of-two = row (recovers listed-done) (record { done = refl; bytes = refl; ended = refl });
+    list-of-none =
+        let z : numberAt (last l two) (call (list 0 [])) ≡ 15 = last-number l two (call (list 0 [])) 15 unlisted-numbers in
+        row (stops-refused two-done [] (call (list 0 [])) (small-below (numbersOf (call (list 0 []))) refl) (other-than-none z)) (record { done = refl; bytes = refl; ended = z });
+    no-setup =
+        let z : numberAt l (call (read 0 0)) ≡ 1 = bad-book l unset (read 0 0) in
+        row (stops-refused (none {l = l}) [] (call (read 0 0)) (small-below (numbersOf (call (read 0 0))) refl) (other-than-none z)) (record { done = refl; bytes = refl; ended = z });
+    bad-counts =
+        row (stops-refused (none {l = l}) [] badSetup (small-below (numbersOf badSetup) refl) (other-than-none (bad-number l full)))
+        (record { done = refl; bytes = refl; ended = bad-number l full });
+    all-of-it = row (recovers all-done) (record { done = refl; bytes = refl; ended = refl });
+  }
+
+-- of the book of zeros
+pub worked-zeros : WorkedJournal zeroBook
+worked-zeros = worked-journal zeroBook (length-replicate {A = ℕ} bookWords 0) zeros-unfit
