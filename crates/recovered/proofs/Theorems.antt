@@ -29,6 +29,10 @@ unfolding last book
 newest-first l h [] = refl
 newest-first l h (r ∷ rs) = newest-first l (r ∷ h) rs
 
+book-told : (l : List ℕ) (rs : List Request) → last l rs ≡ book l (newest rs)
+unfolding book
+book-told l rs = newest-first l [] rs
+
 -- ---- a history goes on
 
 module _ (n : Counts) (homes : List ℕ) (calls : List Call) {b : List ℕ} (e : b ≡ after (ofBooks n homes) calls) where
@@ -45,7 +49,7 @@ module _ (n : Counts) (homes : List ℕ) (calls : List Call) {b : List ℕ} (e :
   later-requests (refused u z) = refused-stays _ _ z ∙ later-requests u
   later-requests (called {q = q} u) = ap (λ (x : List ℕ). bookAfter x (call q)) (later-requests u)
 
-  history-of : (m : List ℕ) → numberAt m (setup n homes) ≡ 0 → HistoryOf b n homes calls
+  pub history-of : (m : List ℕ) → numberAt m (setup n homes) ≡ 0 → HistoryOf b n homes calls
   unfolding numberAt
   history-of m done = record { leaves = e; goes-on = later-calls; demands = the-demands m n homes done }
 
@@ -72,10 +76,10 @@ module _ (l : List ℕ) where
 -- ---- whatever the bytes are
 
 pub stands-for : (l f : List ℕ) → Below byteLimit f → StandsFor l f (journal.replay (journal.start l) f)
-unfolding book last
+unfolding last
 stands-for l f b =
     let t = only-histories l f b in
-    let same : journal.replay (journal.start l) f .book ≡ book l (newest (t .requests)) = t .book ∙ newest-first l [] (t .requests) in
+    let same : journal.replay (journal.start l) f .book ≡ book l (newest (t .requests)) = t .book ∙ book-told l (t .requests) in
     record {
       told = t;
       setups = last-setup l (newest (t .requests));

@@ -24,6 +24,7 @@ use Rattle.upkeep.specs.Requests.{Request, setup, call, numberAt, bookAfter, re
 use Rattle.upkeep.proofs.NeverBadAnswer.{reply-number}
 use Rattle.model.specs.Parts.{fresh}
 use Rattle.model.specs.Calls.{answers}
+use Rattle.model.specs.System.{after}
 use Rattle.model.specs.Cases as cases
 use Rattle.model.proofs.Lawful.{dominates, lawful, lawful-agrees}
 use Rattle.model.proofs.Computed.{answersNow, answers-computed}
@@ -37,7 +38,8 @@ use Rattle.journal.specs.Worked.{listing, Row}
 use Rattle.journal.proofs.ByRecord.{by-none}
 use Rattle.journal.proofs.Theorems.{recovers, recovers-cut, stops-refused, stops-strange}
 use Rattle.journal.proofs.ZeroStart.{bad-book, zeros-unfit}
-use Rattle.recovered.specs.Worked.{refusedLine, WorkedJournal}
+use Rattle.recovered.specs.Worked.{refusedLine, WorkedJournal, WorkedImage}
+use Rattle.recovered.proofs.Theorems.{history-of}
 
 -- ---- numbers of requests
 
@@ -80,13 +82,15 @@ last-number l (q ∷ rs) r k e = last-number (bookAfter l q) rs r k (ap (drop 1)
 -- ---- as the model computes them
 
 module _ (l : List ℕ) (full : length l ≡ bookWords) where
+  numbers-set : (calls : List Call) → numbersAt (setUp counts homes) (map call calls) ≡ map numberIn (answers (toModel counts) (fresh homes) calls)
+  numbers-set calls =
+      numbers-told (setUp counts homes) (map call calls)
+      ∙ ap (map numberIn) (replies-model (toModel counts) (fresh homes) (setUp counts homes) calls (agrees-start l counts homes (set l full)))
+
   numbers-of : (calls : List Call) → numbersAt l (setup counts homes ∷ map call calls) ≡ 0 ∷ map numberIn (answers (toModel counts) (fresh homes) calls)
   unfolding numbersAt numberAt
   numbers-of calls =
-      ap₂ (λ (x : ℕ) (y : List ℕ). x ∷ y) (set l full)
-      (ap (λ (b : List ℕ). numbersAt b (map call calls)) (set-book l full)
-      ∙ numbers-told (setUp counts homes) (map call calls)
-      ∙ ap (map numberIn) (replies-model (toModel counts) (fresh homes) (setUp counts homes) calls (agrees-start l counts homes (set l full))))
+      ap₂ (λ (x : ℕ) (y : List ℕ). x ∷ y) (set l full) (ap (λ (b : List ℕ). numbersAt b (map call calls)) (set-book l full) ∙ numbers-set calls)
 
 tenCalls : List Call
 tenCalls =
@@ -198,5 +202,25 @@ module _ (l : List ℕ) (full : length l ≡ bookWords) where
   }
 
 -- of the book of zeros
+zeros-full : length zeroBook ≡ bookWords
+zeros-full = length-replicate {A = ℕ} bookWords 0
+
 pub worked-zeros : WorkedJournal zeroBook
-worked-zeros = worked-journal zeroBook (length-replicate {A = ℕ} bookWords 0) zeros-unfit
+worked-zeros = worked-journal zeroBook zeros-full zeros-unfit
+
+-- ---- from an image
+
+read-ticked : map numberIn (answers cases.counts (fresh cases.homes) (read 0 0 ∷ tick 0 1 ∷ [])) ≡ 0 ∷ 0 ∷ []
+unfolding answersNow dominates lawful cases.counts cases.homes numberIn
+read-ticked = ap (map numberIn) (answers-computed cases.counts lawful lawful-agrees (fresh cases.homes) (read 0 0 ∷ tick 0 1 ∷ [])) ∙ refl
+
+readAndTick : List Request
+readAndTick = call (read 0 0) ∷ call (tick 0 1) ∷ []
+
+went-on : Done (setUp counts homes) readAndTick
+unfolding readAndTick allSmall small numbersOf counts homes cases.counts cases.homes
+went-on = done-by (setUp counts homes) readAndTick [] [] (numbers-set zeroBook zeros-full (read 0 0 ∷ tick 0 1 ∷ []) ∙ read-ticked) refl
+
+pub worked-image : WorkedImage
+unfolding WorkedImage readAndTick last after numberAt
+worked-image = history-of counts homes (tick 0 1 ∷ read 0 0 ∷ []) (ap (λ (s : Recovered). s .book) (recovers went-on)) zeroBook (set zeroBook zeros-full)

@@ -4,11 +4,14 @@ use Prim.Native.Nat.{ℕ}
 use mathlib.Core.Path.{_≡_}
 use mathlib.Core.List.{List, [], _∷_, _++_}
 use lib.ListN.{take}
-use Rattle.paper.specs.Calls.{write}
+use Rattle.paper.specs.Calls.{read, write, tick}
+use Rattle.register.specs.Calls.{setUp}
 use Rattle.upkeep.specs.Requests.{Request, call}
+use Rattle.bridge.specs.Listing.{counts, homes}
 use Rattle.journal.specs.Record.{recordBytes}
 use Rattle.journal.specs.Journal.{journal, start, replay}
 use Rattle.journal.specs.Worked.{listing, Row}
+use Rattle.recovered.specs.Past.{HistoryOf}
 
 -- the line of the listing that is refused: 8, WAIT
 abbrev pub refusedLine : Request
@@ -30,3 +33,7 @@ pub record WorkedJournal (l : List ℕ) : Type 0 where
   pub bad-counts :
       Row (replay (start l) (1 ∷ 2 ∷ 2 ∷ 0 ∷ 0 ∷ 0 ∷ 2 ∷ 0 ∷ 0 ∷ 0 ∷ 4 ∷ 0 ∷ 0 ∷ 0 ∷ 3 ∷ 0 ∷ 0 ∷ 0 ∷ 0 ∷ 0 ∷ 0 ∷ 0 ∷ 1 ∷ 0 ∷ 0 ∷ 0 ∷ [])) 0 0 11
   pub all-of-it : Row (replay (start l) (journal listing)) 11 148 0
+
+-- from the image of the book that the setup leaves, with the records of a read and of a tick: the history that goes on has both calls, the newest first
+unfoldable pub WorkedImage : Type 0
+WorkedImage = HistoryOf (replay (start (setUp counts homes)) (journal (call (read 0 0) ∷ call (tick 0 1) ∷ [])) .book) counts homes (tick 0 1 ∷ read 0 0 ∷ [])
