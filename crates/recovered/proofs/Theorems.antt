@@ -4,7 +4,7 @@ use Prim.Native.Nat.{ℕ}
 use native.Mathlib.Omega.{arith}
 use mathlib.Core.Path.{_≡_, refl, sym, _∙_, ap}
 use mathlib.Core.Bool.{false}
-use mathlib.Core.List.{List, [], _∷_, _++_, map, reverse, reverseAux}
+use mathlib.Core.List.{List, [], _∷_, _++_, map, reverseAux}
 use lib.ListN.{length}
 use Rattle.paper.specs.Calls.{Call}
 use Rattle.book.specs.declared.parts.Counts.{Counts}
@@ -21,7 +21,7 @@ use Rattle.journal.specs.Journal as journal
 use Rattle.journal.specs.Journal.{Done}
 use Rattle.journal.proofs.Histories.{only-histories}
 use Rattle.journal.proofs.ZeroStart.{bad-book}
-use Rattle.recovered.specs.Past.{OwnHistory, HistoryOf, newest, StandsFor}
+use Rattle.recovered.specs.Past.{HistoryOf, newest, StandsFor}
 
 -- requests oldest first and newest first leave the same book
 newest-first : (l : List ℕ) (h rs : List Request) → last (book l h) rs ≡ book l (reverseAux rs h)

@@ -12,7 +12,6 @@ use Rattle.loops.specs.Loops.{pick, every}
 use Rattle.loops.proofs.BoolLaws.{and-left, and-right}
 use Rattle.paper.specs.Calls.{Call, read, write, tick, take, refresh, list, numberIn, first}
 use Rattle.book.specs.Layout.{bookWords}
-use Rattle.book.specs.declared.parts.Counts.{Counts}
 use Rattle.fit.specs.Fit.{between, countsFit}
 use Rattle.named.specs.Named.{baseFit}
 use Rattle.register.specs.Calls.{setUp}
@@ -33,7 +32,7 @@ use Rattle.bridge.specs.Listing.{counts, homes}
 use Rattle.bridge.proofs.Followed.{agrees-start, replies-model}
 use Rattle.bridge.proofs.ListingHolds.{set, set-book}
 use Rattle.journal.specs.Record.{byteOf, kindOf, formOf, kindIn, numbersOf, countBy, headOf, recordBytes}
-use Rattle.journal.specs.Journal.{journal, Done, none, more, wholeIn, restIn, Recovered, start, replay, endBy, endOf, zeroBook}
+use Rattle.journal.specs.Journal.{journal, Done, none, more, wholeIn, restIn, Recovered, endBy, endOf, zeroBook}
 use Rattle.journal.specs.Worked.{listing, Row}
 use Rattle.journal.proofs.ByRecord.{by-none}
 use Rattle.journal.proofs.Theorems.{recovers, recovers-cut, stops-refused, stops-strange}
