@@ -4,7 +4,7 @@
 use Prim.Native.Nat.{ℕ, zero, suc, _+_, _-_, _≤_, _<_}
 use native.Mathlib.Omega.{arith}
 use native.Mathlib.Nat.{add-zero, zero-add}
-use mathlib.Core.Path.{_≡_, refl, sym, _∙_, ap, ap₂}
+use mathlib.Core.Path.{_≡_, sym, _∙_, ap, ap₂}
 use mathlib.Core.Logic.{⊎-elim}
 use mathlib.Core.Bool.{true, false}
 use mathlib.Core.Option.{Option}
@@ -13,7 +13,6 @@ use lib.Dec.{leb}
 use lib.ListN.{length, take, drop, length-append}
 use lib.Seq.{take-append-le, take-append-seam, drop-append-seam, length-take-le}
 use borrow.Author.Tests.{leb-false}
-use Rattle.loops.specs.Loops.{pick}
 use Rattle.loops.proofs.BoolLaws.{decided, pick-true, pick-false}
 use Rattle.upkeep.specs.Requests.{Request, numberAt, bookAfter, last}
 use Rattle.wire.specs.Wire.{wordLimit, Below}
