@@ -127,7 +127,7 @@ module _ (π : Counts) (homes : List ℕ) where
           let call = a .asked in let crew : c ≡ a .crew = cc in let bearing : k ≡ a .bearing = cc in
           and-intro (eq-eqb o _ (sym (ap (run π homes h .home) crew ∙ a .home))) (eq-eqb s _ (sym (ap (shelfOf π) bearing ∙ a .shelf)))
 
-  sent-is : (h : List Call) (o s : ℕ) → Sent π (ofModel π homes) o s h (putIn π homes h o s)
+  pub sent-is : (h : List Call) (o s : ℕ) → Sent π (ofModel π homes) o s h (putIn π homes h o s)
   unfolding putIn
   sent-is [] o s = begin
   sent-is (q ∷ h) o s = ⊎-elim
