@@ -8,7 +8,7 @@ use mathlib.Core.List.{List, [], _∷_, reverse}
 use lib.ListN.{take}
 use Rattle.loops.specs.Loops.{every, pick}
 use Rattle.paper.specs.Calls.{Call, first}
-use Rattle.model.specs.Parts.{Version, Write, State, fresh}
+use Rattle.model.specs.Parts.{Version, Write, State, unwritten, fresh}
 use Rattle.model.specs.Rules.{copies, shownOf, shown, settled, settle, storing, keep}
 use Rattle.model.specs.Calls.{within, setup, shelfOf, homeShelf, entries, step, ends}
 use Rattle.model.specs.System.{after, run}
@@ -73,6 +73,14 @@ twenty-gone : takenOn listingEnd 1 0 0 ≡ []
 unfolding looked listingToB listingEnd
 twenty-gone = refl
 
+thirty-coming : comingOn listingEnd 1 1 0 ≡ thirty ∷ []
+unfolding looked listingToB listingEnd written thirty
+thirty-coming = refl
+
+thirty-taken : comingOn endOfA 1 1 0 ≡ []
+unfolding looked listingToB endOfA
+thirty-taken = refl
+
 -- the listing's first n calls, computed with the order's laws
 computed : ℕ → State
 unfolding endsNow dominates lawful counts homes listingToB
@@ -86,13 +94,13 @@ after-end : run counts homes listingEnd ≡ computed 11
 unfolding listingToB listingEnd after ends
 after-end = computes 11
 
-after-b : run counts homes endOfB ≡ computed 18
-unfolding listingToB endOfB after ends
-after-b = computes 18
-
 after-a : run counts homes endOfA ≡ computed 14
 unfolding listingToB endOfA after ends
 after-a = computes 14
+
+after-b : run counts homes endOfB ≡ computed 18
+unfolding listingToB endOfB after ends
+after-b = computes 18
 
 held-thirty : computed 14 .shelf 1 1 .taken 0 ≡ thirty ∷ []
 unfolding looked computed written thirty
@@ -114,13 +122,9 @@ computed-thirty : computed 18 .shelf 1 1 .store 1 ≡ thirty .version
 unfolding looked computed written thirty
 computed-thirty = refl
 
-thirty-coming : comingOn listingEnd 1 1 0 ≡ thirty ∷ []
-unfolding looked listingToB listingEnd written thirty
-thirty-coming = refl
-
-thirty-taken : comingOn endOfA 1 1 0 ≡ []
-unfolding looked listingToB endOfA
-thirty-taken = refl
+computed-two : computed 18 .shelf 1 0 .store 2 ≡ unwritten
+unfolding looked computed
+computed-two = refl
 
 thirty-held : takenOn endOfA 1 1 0 ≡ thirty ∷ []
 thirty-held = ap (λ (σ : State). σ .shelf 1 1 .taken 0) after-a ∙ held-thirty
@@ -208,8 +212,9 @@ carried = record {
     thirty-held = thirty-held;
     bare = listing-bare;
     thirty-alike = alike-at endOfB listing-bare 1 (omega arith);
-    two-alike = alike-at endOfB listing-bare 2 (omega arith);
     thirty-stored = ap (λ (σ : State). σ .shelf 1 1 .store 1) after-b ∙ computed-thirty;
+    two-alike = alike-at endOfB listing-bare 2 (omega arith);
+    two-unwritten = ap (λ (σ : State). σ .shelf 1 0 .store 2) after-b ∙ computed-two;
   };
   clash = record {
     sent-seven = sent-seven;

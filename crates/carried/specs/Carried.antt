@@ -7,7 +7,7 @@ use mathlib.Core.List.{List, [], _∷_, reverse}
 use lib.ListN as lists
 use Rattle.paper.specs.declared.answer.Payload.{Payload}
 use Rattle.paper.specs.Calls.{Call, write, tick, take, move}
-use Rattle.model.specs.Parts.{Version, Write}
+use Rattle.model.specs.Parts.{Version, Write, unwritten}
 use Rattle.model.specs.Calls.{made, entries}
 use Rattle.model.specs.System.{after, run}
 use Rattle.model.specs.Cases.{counts, homes, day, pair, listingToB}
@@ -70,10 +70,11 @@ pub record ListingLinks : Type 0 where
   pub thirty-taken : comingOn endOfA 1 1 0 ≡ []
   pub thirty-held : takenOn endOfA 1 1 0 ≡ thirty ∷ []
   pub bare : Bare counts duo endOfB
-  -- so both depots store it, and bearing 2 is unwritten at both
+  -- so both depots store the 30 of bearing 1, and bearing 2 is unwritten at both
   pub thirty-alike : storedAt endOfB 0 1 ≡ storedAt endOfB 1 1
-  pub two-alike : storedAt endOfB 0 2 ≡ storedAt endOfB 1 2
   pub thirty-stored : storedAt endOfB 1 1 ≡ thirty .version
+  pub two-alike : storedAt endOfB 0 2 ≡ storedAt endOfB 1 2
+  pub two-unwritten : storedAt endOfB 1 2 ≡ unwritten
 
 -- ---- (f): two writes of one bearing, at two depots
 
@@ -81,7 +82,7 @@ unfoldable pub seven : Write
 seven = written [] 0 0 (day 7)
 
 unfoldable pub nine : Write
-nine = written [] 1 0 (day 9)
+nine = written (write 0 0 (day 7) ∷ []) 1 0 (day 9)
 
 pub record ClashLinks : Type 0 where
   -- each is put on the link to the other depot
