@@ -47,3 +47,14 @@ cut-most m (suc j) (r ∷ rs) l h =
     rw (pick-true (suc (wholeIn (m - length (recordBytes r)) rs)) 0 t) (omega arith))
     (λ (t : leb (length (recordBytes r)) m ≡ false). absurd (omega (arith, leb-false (length (recordBytes r)) m t)))
     (decided (leb (length (recordBytes r)) m))
+
+-- and not more than there are
+pub cut-within : (m : ℕ) (rs : List Request) → wholeIn m rs ≤ length rs
+unfolding wholeIn
+cut-within m [] = omega arith
+cut-within m (r ∷ rs) =
+    let k : wholeIn (m - length (recordBytes r)) rs ≤ length rs = cut-within (m - length (recordBytes r)) rs in
+    ⊎-elim
+    (λ (t : leb (length (recordBytes r)) m ≡ true). rw (pick-true (suc (wholeIn (m - length (recordBytes r)) rs)) 0 t) (omega arith))
+    (λ (t : leb (length (recordBytes r)) m ≡ false). rw (pick-false (suc (wholeIn (m - length (recordBytes r)) rs)) 0 t) (omega arith))
+    (decided (leb (length (recordBytes r)) m))
