@@ -18,7 +18,7 @@ use Rattle.journal.specs.declared.recover.Fault.the-variants.{Refused, S
 use Rattle.journal.specs.Record.{byteOf, kindOf, formOf, headBy, headSize, numbersBy, numbersIn, size, kindIn, numbersOf, countBy, headOf, recordBytes}
 use Rattle.journal.specs.Worked.{listing}
 use Rattle.journal.specs.Journal.{journal, wholeIn, within, stopped, zeroBook, endBy, endOf, Ended, ends-whole, ends-cut, ends-refused, ends-strange}
-use Rattle.journal.proofs.ZeroStart.{bad-book, zeros-unfit}
+use Rattle.journal.proofs.ZeroStart.{bad-book, zeros-unset}
 
 pub the-setup :
     recordBytes (setup (record { depots = 2; shelves = 2; bearings = 4; crews = 2 }) (0 ∷ 1 ∷ []))
@@ -83,7 +83,7 @@ pub ended-worked :
     × Ended (stopped zeroBook n m (9 ∷ []) Strange) (1 ∷ [])
 unfolding kindOf size headSize headBy numbersIn numbersBy formOf numbersOf pick
 ended-worked n m =
-    let z : numberAt zeroBook (call (read 0 0)) ≡ 1 = bad-book zeroBook zeros-unfit (read 0 0) in
+    let z : numberAt zeroBook (call (read 0 0)) ≡ 1 = bad-book zeroBook zeros-unset (read 0 0) in
     let b : Below wordLimit (0 ∷ 0 ∷ []) = below-more _ _ _ (lit< tt) (below-more _ _ _ (lit< tt) (below-none wordLimit (lit< tt))) in (
       ends-whole,
       ends-cut {k = Setup} refl (lit< tt),

@@ -36,8 +36,8 @@ module _ (l : List ℕ) (u : baseFit l ≡ false) where
   starts-with-setup (more {r = setup n homes} b z d) = (n, homes, refl)
   starts-with-setup (more {r = call q} b z d) = let e : _≡_ {A = ℕ} 1 0 = sym (bad-book q) ∙ z in absurd (omega arith)
 
-pub zeros-unfit : baseFit zeroBook ≡ false
+pub zeros-unset : baseFit zeroBook ≡ false
 unfolding baseFit countsFit between
-zeros-unfit =
+zeros-unset =
     failed _ λ (t : eqb (length zeroBook) bookWords && (countsFit (countsOf zeroBook) && homesFit (countsOf zeroBook) zeroBook) ≡ true).
     false≢true (and-left (countsFit (countsOf zeroBook)) (homesFit (countsOf zeroBook) zeroBook) (and-right (eqb (length zeroBook) bookWords) _ t))

@@ -36,7 +36,7 @@ use Rattle.journal.specs.Journal.{journal, Done, none, more, wholeIn, restIn, R
 use Rattle.journal.specs.Worked.{listing, Row}
 use Rattle.journal.proofs.ByRecord.{by-none}
 use Rattle.journal.proofs.Theorems.{recovers, recovers-cut, stops-refused, stops-strange}
-use Rattle.journal.proofs.ZeroStart.{bad-book, zeros-unfit}
+use Rattle.journal.proofs.ZeroStart.{bad-book, zeros-unset}
 use Rattle.recovered.specs.Worked.{refusedLine, WorkedJournal, WorkedImage}
 use Rattle.recovered.proofs.Theorems.{history-of}
 
@@ -205,7 +205,7 @@ zeros-full : length zeroBook ≡ bookWords
 zeros-full = length-replicate {A = ℕ} bookWords 0
 
 pub worked-zeros : WorkedJournal zeroBook
-worked-zeros = worked-journal zeroBook zeros-full zeros-unfit
+worked-zeros = worked-journal zeroBook zeros-full zeros-unset
 
 -- ---- from an image
 
