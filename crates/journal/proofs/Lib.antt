@@ -1,7 +1,3 @@
+pub mod ByKind
 pub mod RecordLaws
-pub mod Theorems
-pub mod OnlyRecords
-pub mod Histories
-pub mod OneJournal
-pub mod Cuts
-pub mod Worked
+pub mod ByRecord
