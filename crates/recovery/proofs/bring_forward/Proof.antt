@@ -24,11 +24,11 @@ loop-holds c = (search needs, refl, sym (ap (put _ _) (part-none _ _) ∙ put-no
 loop-again : tie.Need-loop-again Inv-loop μ-loop
 loop-again c =
     let loop = c .before .before .loop in
-    let from = c .before .before .before .args .from in
-    ( search needs
-    , simp length-set (loop .inv .1)
-    , ap (λ (k : ℕ). set (loop .buffer) k (getD (loop .buffer) (from + loop .i) 0)) (sym (zero-add (loop .i)))
-      ∙ copy-step _ _ _ _ _ (c .before .loop-test .taken) (c .before .before .before .pre) (inl (omega arith)) (loop .inv .2)
+    let from = c .before .before .before .args .from in (
+      search needs,
+      simp length-set (loop .inv .1),
+      ap (λ (k : ℕ). set (loop .buffer) k (getD (loop .buffer) (from + loop .i) 0)) (sym (zero-add (loop .i)))
+          ∙ copy-step _ _ _ _ _ (c .before .loop-test .taken) (c .before .before .before .pre) (inl (omega arith)) (loop .inv .2),
     )
 
 returns : tie.Need-returns Inv-loop μ-loop
