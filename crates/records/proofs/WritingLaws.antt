@@ -13,7 +13,7 @@ use Rattle.numbers.proofs.NumberLaws.{length-bytes, bytes-append}
 use Rattle.request.specs.declared.ask.Request as request
 use Rattle.upkeep.specs.Requests.{Request}
 use Rattle.calls.specs.Performed.{asked}
-use Rattle.journal.specs.Record.{headSize, kindIn, numbersOf, headOf, recordBytes}
+use Rattle.journal.specs.Record.{headSize, kindIn, numbersOf, recordBytes}
 use Rattle.journal.proofs.RecordLaws.{record-long}
 
 -- ---- a request, known by its case
@@ -23,8 +23,8 @@ module _ (beside : List ℕ) {q q′ : request.Request} (e : q ≡ q′) where
   pub long-as : length (recordBytes (asked q beside)) ≡ headSize (kindIn (asked q′ beside)) + 4 * length (numbersOf (asked q′ beside))
   long-as = ap (λ (x : request.Request). length (recordBytes (asked x beside))) e ∙ record-long (asked q′ beside)
 
-  pub count-as : Below byteLimit (headOf (asked q beside)) → getD (headOf (asked q′ beside)) 1 0 < byteLimit
-  count-as h = subst (λ (x : request.Request). Below byteLimit (headOf (asked x beside))) e h .at 1
+  pub count-as : Below byteLimit (recordBytes (asked q beside)) → getD (recordBytes (asked q′ beside)) 1 0 < byteLimit
+  count-as h = subst (λ (x : request.Request). Below byteLimit (recordBytes (asked x beside))) e h .at 1
 
   pub written-as : (o : List ℕ) (at : ℕ) {o′ : List ℕ} → o′ ≡ put o at (recordBytes (asked q′ beside)) → o′ ≡ put o at (recordBytes (asked q beside))
   written-as o at h = h ∙ sym (ap (λ (x : request.Request). put o at (recordBytes (asked x beside))) e)

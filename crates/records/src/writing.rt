@@ -11,7 +11,7 @@ ghost use Rattle.book.specs.Words.{put};
 ghost use Rattle.wire.specs.Wire.{byteLimit, Below};
 ghost use Rattle.numbers.specs.Numbers.{bytesOf};
 ghost use Rattle.calls.specs.Performed.{asked};
-ghost use Rattle.journal.specs.Record.{byteOf, headOf, recordBytes};
+ghost use Rattle.journal.specs.Record.{byteOf, recordBytes};
 
 // How many bytes the record of a request has, with the numbers beside it.
 pub fn size_of(request: Request, beside: &[u32]) -> usize
@@ -69,7 +69,7 @@ fn put_counted(out: &mut [u8], at: usize, kind: Kind, own: &[u32], beside: &[u32
 
 // The record of a request stands from `at` on.
 pub fn write_record(request: Request, beside: &[u32], out: &mut [u8], at: usize)
-    requires { ⌜ (at + length (recordBytes (asked request (now beside))) ≤ length (now out)) × Below byteLimit (headOf (asked request (now beside))) ⌝ }
+    requires { ⌜ (at + length (recordBytes (asked request (now beside))) ≤ length (now out)) × Below byteLimit (recordBytes (asked request (now beside))) ⌝ }
     ensures { λ r. ⌜ now (out .exit) ≡ put (now (out .entry)) at (recordBytes (asked request (now (beside .entry)))) ⌝ }
 {
     match request {

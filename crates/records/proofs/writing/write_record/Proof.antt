@@ -9,7 +9,7 @@ use Rattle.records.proofs.writing.write_record.Statement.{statement}
 use Rattle.records.proofs.writing.write_record.Tie as tie
 
 put-counted-requires : tie.Need-put-counted-requires
-unfolding formOf headBy headSize kindIn numbersOf countBy headOf
+unfolding formOf headBy headSize kindIn numbersOf countBy headOf recordBytes
 put-counted-requires c κs =
     let args = c .before .before .before .before .before .before .before .args in
     let pre = c .before .before .before .before .before .before .before .pre in
@@ -17,7 +17,7 @@ put-counted-requires c κs =
     (omega (arith, long-as (now (args .beside)) e, pre .0), count-as (now (args .beside)) e (pre .1))
 
 put-counted-requires-2 : tie.Need-put-counted-requires-2
-unfolding formOf headBy headSize kindIn numbersOf countBy headOf
+unfolding formOf headBy headSize kindIn numbersOf countBy headOf recordBytes
 put-counted-requires-2 c κs =
     let args = c .before .before .before .before .before .before .before .args in
     let pre = c .before .before .before .before .before .before .before .pre in
