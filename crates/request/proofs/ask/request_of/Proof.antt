@@ -1,15 +1,15 @@
--- `paper::request::request_of` meets its contract: each event's numbers in their order.
+-- `request::ask::request_of` meets its contract: each event's numbers in their order.
 -- Assumes nothing.
 use Prim.Native.Nat.{ℕ}
 use mathlib.Core.Path.{_≡_, sym, _∙_, ap}
 use mathlib.Core.List.{List}
-use Rattle.paper.specs.declared.request.Event.{Event}
-use Rattle.paper.specs.declared.request.Request.{Request}
-use Rattle.paper.specs.declared.request.Request.the-variants as request
-use Rattle.paper.specs.Requests.{requestIn}
+use Rattle.request.specs.declared.ask.Event.{Event}
+use Rattle.request.specs.declared.ask.Request.{Request}
+use Rattle.request.specs.declared.ask.Request.the-variants as request
+use Rattle.request.specs.Requests.{requestIn}
 use borrow.Author.Needs.{needs}
-use Rattle.paper.proofs.request.request_of.Statement.{statement}
-use Rattle.paper.proofs.request.request_of.Tie as tie
+use Rattle.request.proofs.ask.request_of.Statement.{statement}
+use Rattle.request.proofs.ask.request_of.Tie as tie
 
 -- an event, known by its case
 by-event : (ns : List ℕ) {e e′ : Event} {r : Request} → e ≡ e′ → r ≡ requestIn e′ ns → r ≡ requestIn e ns
@@ -57,6 +57,10 @@ returns-6 c =
     by-event _ (c .enum-told6 .given .1) (λ z. request.Refresh (c .before .before .before .before .before .before .number-at .ensures z)
     (c .before .before .before .before .before .number-at2 .ensures z))
 
+returns-7 : tie.Need-returns-7
+unfolding requestIn
+returns-7 c = by-event _ (c .enum-told7 .given .1) (λ z. request.List (c .before .before .before .before .before .before .number-at .ensures z))
+
 pub request-of-spec : {M : Type 1} → statement M
 request-of-spec =
     tie.close
@@ -72,9 +76,11 @@ request-of-spec =
     (λ c. search needs)
     (λ c. search needs)
     (λ c. search needs)
+    (λ c. search needs)
     returns
     returns-2
     returns-3
     returns-4
     returns-5
-    returns-6)
+    returns-6
+    returns-7)

@@ -1,11 +1,8 @@
 // What is asked: a setup or a call, with its numbers.
-use crate::answer::Payload;
+use paper::answer::Payload;
 ghost use mathlib.Core.Path.{_≡_};
 ghost use lib.ListN.{getD};
-ghost use Rattle.paper.specs.Requests.{requestIn, homesIn};
-
-// The last day that a value may name, 31 December 2399: the calendar's last day.
-pub const LAST_DAY: u32 = 146_096;
+ghost use Rattle.request.specs.Requests.{requestIn, ownNumbers, besideIn};
 
 // The kinds of request that a line can make, as its letter names them. A move is none: the lines are closed.
 pub enum Event {
@@ -15,9 +12,10 @@ pub enum Event {
     Tick,
     Take,
     Refresh,
+    List,
 }
 
-// A request with its numbers. The homes of a setup stand beside it.
+// A request with its numbers. The homes of a setup and the bearings of a list stand beside it.
 pub enum Request {
     Setup {
         depots: u32,
@@ -50,6 +48,9 @@ pub enum Request {
     Move {
         crew: u32,
         depot: u32,
+    },
+    List {
+        crew: u32,
     },
 }
 
@@ -105,16 +106,33 @@ pub fn request_of(event: Event, numbers: &[u32]) -> Request
             depot: first,
             shelf: second,
         },
+        Event::List => Request::List { crew: first },
     }
 }
 
-// The homes of a setup: the numbers after its four counts.
-pub fn homes_in(numbers: &[u32]) -> &[u32]
-    ensures { λ r. ⌜ now r ≡ homesIn (now (numbers .entry)) ⌝ }
+// How many numbers a request of this kind has of its own.
+fn own_numbers(event: Event) -> usize
+    ensures { λ r. ⌜ r ≡ ownNumbers event ⌝ }
 {
+    match event {
+        Event::Setup => 4,
+        Event::Read => 2,
+        Event::Write => 5,
+        Event::Tick => 2,
+        Event::Take => 3,
+        Event::Refresh => 2,
+        Event::List => 1,
+    }
+}
+
+// The numbers that stand beside the request: those after its own, the homes of a setup and the bearings of a list.
+pub fn beside_in(event: Event, numbers: &[u32]) -> &[u32]
+    ensures { λ r. ⌜ now r ≡ besideIn event (now (numbers .entry)) ⌝ }
+{
+    let own = own_numbers(event);
     let end = numbers.len();
-    if end < 4 {
+    if end < own {
         return &numbers[end..];
     }
-    &numbers[4..]
+    &numbers[own..]
 }

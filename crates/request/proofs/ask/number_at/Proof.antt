@@ -1,11 +1,11 @@
--- `paper::request::number_at` meets its contract: past the last number stands 0.
+-- `request::ask::number_at` meets its contract: past the last number stands 0.
 -- Assumes nothing.
 use mathlib.Core.Path.{sym}
 use denote.Ref.{now}
 use lib.ListN.{List·getD-eq-default}
 use borrow.Author.Needs.{needs}
-use Rattle.paper.proofs.request.number_at.Statement.{statement}
-use Rattle.paper.proofs.request.number_at.Tie as tie
+use Rattle.request.proofs.ask.number_at.Statement.{statement}
+use Rattle.request.proofs.ask.number_at.Tie as tie
 
 returns-2 : tie.Need-returns-2
 returns-2 c = sym (List·getD-eq-default (now (c .before .args .numbers)) 0 (c .if1 .left))
