@@ -1,3 +1,9 @@
 pub mod ByKind
 pub mod RecordLaws
 pub mod ByRecord
+pub mod Cuts
+pub mod Theorems
+pub mod Histories
+pub mod OneJournal
+pub mod Kept
+pub mod Worked
