@@ -2,13 +2,12 @@
 -- Assumes nothing.
 use Prim.Native.Nat.{ℕ}
 use mathlib.Core.List.{List, [], _∷_, _++_}
-use Rattle.paper.specs.declared.request.Event.{Event}
-use mathlib.Core.Path.{_≡_}
 use lib.Dec.{eqb}
 use Rattle.loops.specs.Loops.{pick}
+use Rattle.request.specs.declared.ask.Event.{Event}
 use Rattle.upkeep.specs.Requests as requests
-use Rattle.upkeep.specs.Requests.{Request, numberAt, replyTo, last}
-use Rattle.journal.specs.Journal.{journal, Done}
+use Rattle.upkeep.specs.Requests.{Request, numberAt, replyTo}
+use Rattle.journal.specs.Journal.{journal}
 use Rattle.calls.specs.Performed.{requestOf}
 use Rattle.line.specs.Reading.{Reading, bad, good, reading}
 use Rattle.line.specs.Answers.{numberAnswer}
@@ -69,13 +68,6 @@ recordTo l s = journal (doneBy l s)
 abbrev pub recordRoom : ℕ
 recordRoom = 82
 
--- what a line gives, an answer or a record: bytes that follow from the book before it and the line
-abbrev pub Giving : Type 0
-Giving = List ℕ → List ℕ → List ℕ
-
--- the bytes j are the journal of a history from the book l on, which leaves the book l′
-pub record Journals (l j l′ : List ℕ) : Type 0 where
-  pub requests : List Request
-  pub history : Done l requests
-  pub bytes : j ≡ journal requests
-  pub book : l′ ≡ last l requests
+-- what a line gives, as an answer, a record or what it got done: a list that follows from the book before it and the line
+abbrev pub Giving : Type 0 → Type 0
+Giving A = List ℕ → List ℕ → List A

@@ -42,7 +42,7 @@ module _ (l p : List ℕ) (b : ℕ) where
   unfolding bookAt
   book-stays h = pick-false _ _ (ne-eqb b 10 h)
 
-module _ (g : Giving) (l p : List ℕ) (b : ℕ) where
+module _ {A : Type 0} (g : Giving A) (l p : List ℕ) (b : ℕ) where
   pub gives-ends : b ≡ lineFeed → givesAt g l p b ≡ g l p
   unfolding givesAt
   gives-ends h = pick-true _ _ (eq-eqb b 10 h)
@@ -100,11 +100,11 @@ unfolding bookThrough lineThrough
 book-append l p [] t = refl
 book-append l p (b ∷ s) t = book-append (bookAt l p b) (lineAt p b) s t
 
-pub gives-append : (g : Giving) (l p s t : List ℕ) → givesThrough g l p (s ++ t) ≡ givesThrough g l p s ++ givesThrough g (bookThrough l p s) (lineThrough p s) t
+pub gives-append : {A : Type 0} (g : Giving A) (l p s t : List ℕ) → givesThrough g l p (s ++ t) ≡ givesThrough g l p s ++ givesThrough g (bookThrough l p s) (lineThrough p s) t
 unfolding givesThrough bookThrough lineThrough
 gives-append g l p [] t = refl
-gives-append g l p (b ∷ s) t =
-    ap (λ (x : List ℕ). givesAt g l p b ++ x) (gives-append g (bookAt l p b) (lineAt p b) s t)
+gives-append {A} g l p (b ∷ s) t =
+    ap (λ (x : List A). givesAt g l p b ++ x) (gives-append g (bookAt l p b) (lineAt p b) s t)
     ∙ sym (append-assoc (givesAt g l p b) (givesThrough g (bookAt l p b) (lineAt p b) s) _)
 
 -- one byte more
@@ -121,21 +121,21 @@ module _ (t : List ℕ) (i : ℕ) (h : i < length t) where
   book-more l p = ap (bookThrough l p) one-more ∙ book-append l p (take i t) (getD t i 0 ∷ [])
 
   gives-more :
-      (g : Giving) (l p : List ℕ) →
+      {A : Type 0} (g : Giving A) (l p : List ℕ) →
       givesThrough g l p (take (i + 1) t) ≡ givesThrough g l p (take i t) ++ givesAt g (bookThrough l p (take i t)) (lineThrough p (take i t)) (getD t i 0)
   unfolding givesThrough
-  gives-more g l p =
+  gives-more {A} g l p =
       ap (givesThrough g l p) one-more
       ∙ gives-append g l p (take i t) (getD t i 0 ∷ [])
-      ∙ ap (λ (x : List ℕ). givesThrough g l p (take i t) ++ x) (append-nil _)
+      ∙ ap (λ (x : List A). givesThrough g l p (take i t) ++ x) (append-nil _)
 
 -- ---- how much is given at most
 
 -- a line gives no more than n bytes
-pub record Most (g : Giving) (n : ℕ) : Type 0 where
+pub record Most (g : Giving ℕ) (n : ℕ) : Type 0 where
   pub most : (l s : List ℕ) → length (g l s) ≤ n
 
-module _ {g : Giving} {n : ℕ} (m : Most g n) where
+module _ {g : Giving ℕ} {n : ℕ} (m : Most g n) where
   at-length : (l p : List ℕ) (b : ℕ) → length (givesAt g l p b) ≤ n
   at-length l p b =
       ⊎-elim
@@ -182,7 +182,7 @@ pub record Fed (l₀ p₀ t l line : List ℕ) (i : ℕ) : Type 0 where
   pub so-far : lineIn line ≡ lineThrough p₀ (take i t)
 
 -- and what was given, in the buffer o before the place next
-pub record Given (g : Giving) (n : ℕ) (l₀ p₀ t o₀ o : List ℕ) (next i : ℕ) : Type 0 where
+pub record Given (g : Giving ℕ) (n : ℕ) (l₀ p₀ t o₀ o : List ℕ) (next i : ℕ) : Type 0 where
   pub wrote : Wrote o₀ 0 (givesThrough g l₀ p₀ (take i t)) o next
   pub room : next ≤ n * i
 
@@ -190,11 +190,11 @@ pub fed-start : (l₀ line t : List ℕ) → Holder line → Fed l₀ (lineIn li
 unfolding bookThrough lineThrough
 fed-start l₀ line t h = record { inside = omega arith; holder = h; words = refl; so-far = refl }
 
-pub given-start : (g : Giving) (n : ℕ) (l₀ p₀ t o₀ : List ℕ) → Given g n l₀ p₀ t o₀ o₀ 0 0
+pub given-start : (g : Giving ℕ) (n : ℕ) (l₀ p₀ t o₀ : List ℕ) → Given g n l₀ p₀ t o₀ o₀ 0 0
 unfolding givesThrough
 given-start g n l₀ p₀ t o₀ = record { wrote = wrote-nothing o₀ 0; room = omega arith }
 
-pub given-room : {g : Giving} {n : ℕ} {l₀ p₀ t o₀ o : List ℕ} {next i : ℕ} → Given g n l₀ p₀ t o₀ o next i → i < length t → n * length t ≤ length o₀ → next + n ≤ length o
+pub given-room : {g : Giving ℕ} {n : ℕ} {l₀ p₀ t o₀ o : List ℕ} {next i : ℕ} → Given g n l₀ p₀ t o₀ o next i → i < length t → n * length t ≤ length o₀ → next + n ≤ length o
 given-room {n = n} {t = t} {i = i} w h k =
     let e = wrote-length (w .wrote) in
     let more : n * (i + 1) ≤ n * length t = mul-le-mul-left n (omega arith) in
@@ -213,7 +213,7 @@ module _ {l₀ p₀ t l line : List ℕ} {i : ℕ} (f : Fed l₀ p₀ t l line i
         so-far = so-far .1 ∙ ap (λ (y : List ℕ). lineAt y (getD t i 0)) (f .so-far) ∙ sym (line-more t i h p₀);
       }
 
-  pub given-step : {g : Giving} {n : ℕ} {o₀ o o′ : List ℕ} {next next′ : ℕ}
+  pub given-step : {g : Giving ℕ} {n : ℕ} {o₀ o o′ : List ℕ} {next next′ : ℕ}
       → Most g n
       → Given g n l₀ p₀ t o₀ o next i
       → Wrote o next (givesAt g l (lineIn line) (getD t i 0)) o′ next′
@@ -236,29 +236,47 @@ module _ {l₀ p₀ t l line : List ℕ} {i : ℕ} (f : Fed l₀ p₀ t l line i
   pub fed-line : lineIn line ≡ lineThrough p₀ t
   fed-line = f .so-far ∙ ap (lineThrough p₀) (take-all i t h)
 
-pub given-all : {g : Giving} {n : ℕ} {l₀ p₀ t o₀ o : List ℕ} {next i : ℕ} → Given g n l₀ p₀ t o₀ o next i → length t ≤ i → Wrote o₀ 0 (givesThrough g l₀ p₀ t) o next
+pub given-all : {g : Giving ℕ} {n : ℕ} {l₀ p₀ t o₀ o : List ℕ} {next i : ℕ} → Given g n l₀ p₀ t o₀ o next i → length t ≤ i → Wrote o₀ 0 (givesThrough g l₀ p₀ t) o next
 given-all {g} {l₀ = l₀} {p₀ = p₀} {t = t} {i = i} w h = wrote-same (ap (givesThrough g l₀ p₀) (take-all i t h)) (w .wrote)
 
 -- ---- the end of the input
 
-module _ (l p : List ℕ) where
-  pub last-none : length p ≡ 0 → (bookLast l p ≡ l) × ((g : Giving) → givesLast g l p ≡ [])
-  unfolding bookLast givesLast
-  last-none h = (pick-true _ _ (eq-eqb _ 0 h), λ g. pick-true _ _ (eq-eqb _ 0 h))
+module _ (l p : List ℕ) (h : length p ≡ 0) where
+  pub last-none : bookLast l p ≡ l
+  unfolding bookLast
+  last-none = pick-true _ _ (eq-eqb _ 0 h)
 
-  pub last-some : (length p ≡ 0 → ⊥) → (bookLast l p ≡ bookAfter l p) × ((g : Giving) → givesLast g l p ≡ g l p)
-  unfolding bookLast givesLast
-  last-some h = (pick-false _ _ (ne-eqb _ 0 h), λ g. pick-false _ _ (ne-eqb _ 0 h))
+  pub last-gives-none : {A : Type 0} (g : Giving A) → givesLast g l p ≡ []
+  unfolding givesLast
+  last-gives-none g = pick-true _ _ (eq-eqb _ 0 h)
+
+module _ (l p : List ℕ) (h : length p ≡ 0 → ⊥) where
+  pub last-some : bookLast l p ≡ bookAfter l p
+  unfolding bookLast
+  last-some = pick-false _ _ (ne-eqb _ 0 h)
+
+  pub last-gives : {A : Type 0} (g : Giving A) → givesLast g l p ≡ g l p
+  unfolding givesLast
+  last-gives g = pick-false _ _ (ne-eqb _ 0 h)
 
 -- ---- a piece
 
-pub piece-end : (l p c : List ℕ) → length c ≡ 0 → (bookPiece l p c ≡ bookLast l p) × (linePiece p c ≡ []) × ((g : Giving) → givesPiece g l p c ≡ givesLast g l p)
-unfolding bookPiece linePiece givesPiece
-piece-end l p [] h = (refl, refl, λ g. refl)
+pub piece-end : (l p c : List ℕ) → length c ≡ 0 → (bookPiece l p c ≡ bookLast l p) × (linePiece p c ≡ [])
+unfolding bookPiece linePiece
+piece-end l p [] h = (refl, refl)
 piece-end l p (b ∷ c) h = absurd (omega arith)
 
-pub piece-some : (l p c : List ℕ) → (length c ≡ 0 → ⊥)
-    → (bookPiece l p c ≡ bookThrough l p c) × (linePiece p c ≡ lineThrough p c) × ((g : Giving) → givesPiece g l p c ≡ givesThrough g l p c)
-unfolding bookPiece linePiece givesPiece
+pub piece-gives-end : {A : Type 0} (g : Giving A) (l p c : List ℕ) → length c ≡ 0 → givesPiece g l p c ≡ givesLast g l p
+unfolding givesPiece
+piece-gives-end g l p [] h = refl
+piece-gives-end g l p (b ∷ c) h = absurd (omega arith)
+
+pub piece-some : (l p c : List ℕ) → (length c ≡ 0 → ⊥) → (bookPiece l p c ≡ bookThrough l p c) × (linePiece p c ≡ lineThrough p c)
+unfolding bookPiece linePiece
 piece-some l p [] h = absurd (h refl)
-piece-some l p (b ∷ c) h = (refl, refl, λ g. refl)
+piece-some l p (b ∷ c) h = (refl, refl)
+
+pub piece-gives : {A : Type 0} (g : Giving A) (l p c : List ℕ) → (length c ≡ 0 → ⊥) → givesPiece g l p c ≡ givesThrough g l p c
+unfolding givesPiece
+piece-gives g l p [] h = absurd (h refl)
+piece-gives g l p (b ∷ c) h = refl

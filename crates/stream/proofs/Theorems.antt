@@ -1,5 +1,5 @@
--- The desk on a whole input: whatever pieces it comes in, what is said to its bytes and at its end is one answer for each line, in order, and what is logged is one
--- record for each line that was done.
+-- The desk on a whole input: whatever pieces it comes in, what is said to its bytes and at its end is one answer for each line, in order, and what gets done is what
+-- its lines get done.
 -- Keeping 121 bytes of a line is enough: a longer one is bad, and so is what is kept of it.
 -- Assumes nothing.
 use Prim.Native.Nat.{ℕ, zero, suc, _≤_, _<_}
@@ -14,12 +14,11 @@ use borrow.Author.Tests.{eq-eqb, ne-eqb}
 use Rattle.loops.proofs.BoolLaws.{le-or-lt, eq-or-ne, pick-true, pick-false}
 use Rattle.line.specs.Reading.{Reading, reading}
 use Rattle.line.proofs.LineLaws.{reading-cut}
-use Rattle.journal.specs.Journal.{journal}
-use Rattle.events.specs.Answering.{lineFeed, Giving, readingSays, readingDone, readingBook, answerTo, doneBy, recordTo, bookAfter}
-use Rattle.stream.specs.Stream.{linesFrom, linesOf, givenTo, recordsTo, bookAfterAll, zeroBook, output, lineAt, bookAt, givesAt, lineThrough, bookThrough, givesThrough}
-use Rattle.stream.specs.Stream.{givesLast, bookLast, linePiece, bookPiece, givesPiece, linePieces, bookPieces, givesPieces, saysPieces, logPieces, joined, Pieces}
+use Rattle.events.specs.Answering.{lineFeed, Giving, readingSays, readingDone, readingBook, answerTo, doneBy, bookAfter}
+use Rattle.stream.specs.Stream.{linesFrom, linesOf, givenTo, doneIn, bookAfterAll, zeroBook, output, lineAt, bookAt, givesAt, lineThrough, bookThrough, givesThrough}
+use Rattle.stream.specs.Stream.{givesLast, bookLast, linePiece, bookPiece, givesPiece, linePieces, bookPieces, givesPieces, saysPieces, donePieces, joined, Pieces}
 use Rattle.stream.specs.Stream.{lineIn, Holder, Served}
-use Rattle.stream.proofs.StreamLaws.{line-ends, book-ends, gives-ends, line-grows, line-full, book-stays, gives-nothing, line-append, book-append, gives-append, piece-some}
+use Rattle.stream.proofs.StreamLaws.{line-ends, book-ends, gives-ends, line-grows, line-full, book-stays, gives-nothing, line-append, book-append, gives-append, piece-some, piece-gives}
 
 -- ---- what is kept of a line serves for the line
 
@@ -35,18 +34,18 @@ cut-reading p =
     (le-or-lt (length p) 121)
 
 -- what a line gives goes by what it says
-pub record Read (g : Giving) : Type 0 where
+pub record Read {A : Type 0} (g : Giving A) : Type 0 where
   pub same : (l s t : List ℕ) → reading s ≡ reading t → g l s ≡ g l t
 
 pub answers-read : Read answerTo
 unfolding answerTo
 answers-read = record { same = λ l s t e. ap (λ (r : Reading). readingSays l r ++ (lineFeed ∷ [])) e }
 
-pub records-read : Read recordTo
-unfolding recordTo doneBy
-records-read = record { same = λ l s t e. ap (λ (r : Reading). journal (readingDone l r)) e }
+pub done-read : Read doneBy
+unfolding doneBy
+done-read = record { same = λ l s t e. ap (readingDone l) e }
 
-cut-gives : {g : Giving} → Read g → (l p : List ℕ) → g l (cutTo p) ≡ g l p
+cut-gives : {A : Type 0} {g : Giving A} → Read g → (l p : List ℕ) → g l (cutTo p) ≡ g l p
 cut-gives r l p = r .same l (cutTo p) p (cut-reading p)
 
 cut-book : (l p : List ℕ) → bookAfter l (cutTo p) ≡ bookAfter l p
@@ -76,13 +75,13 @@ cut-empty p = some-empty 121 p (omega arith)
 
 -- ---- what the bytes give, and then the end
 
-unfoldable pub givesAll : Giving → List ℕ → List ℕ → List ℕ → List ℕ
+unfoldable pub givesAll : {A : Type 0} → Giving A → List ℕ → List ℕ → List ℕ → List A
 givesAll g l p t = givesThrough g l p t ++ givesLast g (bookThrough l p t) (lineThrough p t)
 
 unfoldable pub bookAll : List ℕ → List ℕ → List ℕ → List ℕ
 bookAll l p t = bookLast (bookThrough l p t) (lineThrough p t)
 
-gives-next : (g : Giving) (l p : List ℕ) (b : ℕ) (t : List ℕ) → givesAll g l p (b ∷ t) ≡ givesAt g l p b ++ givesAll g (bookAt l p b) (lineAt p b) t
+gives-next : {A : Type 0} (g : Giving A) (l p : List ℕ) (b : ℕ) (t : List ℕ) → givesAll g l p (b ∷ t) ≡ givesAt g l p b ++ givesAll g (bookAt l p b) (lineAt p b) t
 unfolding givesAll givesThrough bookThrough lineThrough
 gives-next g l p b t = append-assoc (givesAt g l p b) (givesThrough g (bookAt l p b) (lineAt p b) t) _
 
@@ -91,9 +90,9 @@ unfolding bookAll bookThrough lineThrough
 book-next l p b t = refl
 
 -- a text whose first line begins with p
-pub gives-lines : {g : Giving} → Read g → (l p t : List ℕ) → givesAll g l (cutTo p) t ≡ givenTo g l (linesFrom p t)
+pub gives-lines : {A : Type 0} {g : Giving A} → Read g → (l p t : List ℕ) → givesAll g l (cutTo p) t ≡ givenTo g l (linesFrom p t)
 unfolding givesAll givesThrough bookThrough lineThrough givesLast linesFrom givenTo
-gives-lines {g} r l p [] =
+gives-lines {g = g} r l p [] =
     ⊎-elim
     (λ (h : length p ≡ 0).
     pick-true _ _ (cut-empty p ∙ eq-eqb _ 0 h) ∙ sym (ap (givenTo g l) (pick-true _ _ (eq-eqb _ 0 h))))
@@ -103,16 +102,16 @@ gives-lines {g} r l p [] =
     ∙ sym (append-nil (g l p))
     ∙ sym (ap (givenTo g l) (pick-false _ _ (ne-eqb _ 0 h))))
     (eq-or-ne (length p) 0)
-gives-lines {g} r l p (b ∷ t) =
+gives-lines {A} {g} r l p (b ∷ t) =
     gives-next g l (cutTo p) b t
     ∙ ⊎-elim
     (λ (h : b ≡ 10).
-    ap (λ (x : List ℕ). x ++ givesAll g (bookAt l (cutTo p) b) (lineAt (cutTo p) b) t) (gives-ends g l (cutTo p) b h ∙ cut-gives r l p)
-    ∙ ap (λ (x : List ℕ). g l p ++ x)
+    ap (λ (x : List A). x ++ givesAll g (bookAt l (cutTo p) b) (lineAt (cutTo p) b) t) (gives-ends g l (cutTo p) b h ∙ cut-gives r l p)
+    ∙ ap (λ (x : List A). g l p ++ x)
     (ap₂ (λ (m q : List ℕ). givesAll g m q t) (book-ends l (cutTo p) b h ∙ cut-book l p) (line-ends (cutTo p) b h) ∙ gives-lines r (bookAfter l p) [] t)
     ∙ sym (ap (givenTo g l) (pick-true _ _ (eq-eqb b 10 h))))
     (λ (h : b ≡ 10 → ⊥).
-    ap (λ (x : List ℕ). x ++ givesAll g (bookAt l (cutTo p) b) (lineAt (cutTo p) b) t) (gives-nothing g l (cutTo p) b h)
+    ap (λ (x : List A). x ++ givesAll g (bookAt l (cutTo p) b) (lineAt (cutTo p) b) t) (gives-nothing g l (cutTo p) b h)
     ∙ ap₂ (λ (m q : List ℕ). givesAll g m q t) (book-stays l (cutTo p) b h) (cut-grows p b h)
     ∙ gives-lines r l (p ++ (b ∷ [])) t
     ∙ sym (ap (givenTo g l) (pick-false _ _ (ne-eqb b 10 h))))
@@ -149,14 +148,14 @@ some c h z = omega arith
 abbrev andEnd : List (List ℕ) → List (List ℕ)
 andEnd cs = cs ++ ([] ∷ [])
 
-gives-joined : (g : Giving) (l p : List ℕ) (cs : List (List ℕ)) → Pieces cs → givesPieces g l p (andEnd cs) ≡ givesAll g l p (joined cs)
+gives-joined : {A : Type 0} (g : Giving A) (l p : List ℕ) (cs : List (List ℕ)) → Pieces cs → givesPieces g l p (andEnd cs) ≡ givesAll g l p (joined cs)
 unfolding givesPieces givesPiece joined Pieces givesAll givesThrough bookThrough lineThrough
 gives-joined g l p [] h = append-nil (givesLast g l p)
-gives-joined g l p (c ∷ cs) h =
+gives-joined {A} g l p (c ∷ cs) h =
     let one = piece-some l p c (some c (h .0)) in
-    ap₂ (λ (x y : List ℕ). x ++ y) (one .2 g) (ap₂ (λ (m q : List ℕ). givesPieces g m q (andEnd cs)) (one .0) (one .1) ∙ gives-joined g (bookThrough l p c) (lineThrough p c) cs (h .1))
+    ap₂ (λ (x y : List A). x ++ y) (piece-gives g l p c (some c (h .0))) (ap₂ (λ (m q : List ℕ). givesPieces g m q (andEnd cs)) (one .0) (one .1) ∙ gives-joined g (bookThrough l p c) (lineThrough p c) cs (h .1))
     ∙ sym (append-assoc (givesThrough g l p c) (givesThrough g (bookThrough l p c) (lineThrough p c) (joined cs)) _)
-    ∙ ap₂ (λ (x y : List ℕ). x ++ y) (sym (gives-append g l p c (joined cs)))
+    ∙ ap₂ (λ (x y : List A). x ++ y) (sym (gives-append g l p c (joined cs)))
     (ap₂ (givesLast g) (sym (book-append l p c (joined cs))) (sym (line-append p c (joined cs))))
 
 book-joined : (l p : List ℕ) (cs : List (List ℕ)) → Pieces cs → bookPieces l p (andEnd cs) ≡ bookAll l p (joined cs)
@@ -168,18 +167,18 @@ book-joined l p (c ∷ cs) h =
     ∙ book-joined (bookThrough l p c) (lineThrough p c) cs (h .1)
     ∙ ap₂ bookLast (sym (book-append l p c (joined cs))) (sym (line-append p c (joined cs)))
 
--- ---- a whole input, in whatever pieces: what is said to them and at the end is one answer for each line, and what is logged one record for each that was done
+-- ---- a whole input, in whatever pieces: what is said to them and at the end is one answer for each line, and what gets done is what the lines get done
 
-gives-whole : {g : Giving} → Read g → (l : List ℕ) (cs : List (List ℕ)) → Pieces cs → givesPieces g l [] (cs ++ ([] ∷ [])) ≡ givenTo g l (linesOf (joined cs))
+gives-whole : {A : Type 0} {g : Giving A} → Read g → (l : List ℕ) (cs : List (List ℕ)) → Pieces cs → givesPieces g l [] (cs ++ ([] ∷ [])) ≡ givenTo g l (linesOf (joined cs))
 unfolding linesOf
-gives-whole {g} r l cs h = gives-joined g l [] cs h ∙ gives-lines r l [] (joined cs)
+gives-whole {g = g} r l cs h = gives-joined g l [] cs h ∙ gives-lines r l [] (joined cs)
 
 pub desk-output : (cs : List (List ℕ)) → Pieces cs → saysPieces zeroBook [] (cs ++ ([] ∷ [])) ≡ output (joined cs)
 unfolding output
 desk-output cs h = gives-whole answers-read zeroBook cs h
 
-pub desk-log : (l : List ℕ) (cs : List (List ℕ)) → Pieces cs → logPieces l [] (cs ++ ([] ∷ [])) ≡ recordsTo l (linesOf (joined cs))
-desk-log l cs h = gives-whole records-read l cs h
+pub desk-done : (l : List ℕ) (cs : List (List ℕ)) → Pieces cs → donePieces l [] (cs ++ ([] ∷ [])) ≡ doneIn l (linesOf (joined cs))
+desk-done l cs h = gives-whole done-read l cs h
 
 pub desk-book : (cs : List (List ℕ)) → Pieces cs → bookPieces zeroBook [] (cs ++ ([] ∷ [])) ≡ bookAfterAll zeroBook (linesOf (joined cs))
 unfolding linesOf

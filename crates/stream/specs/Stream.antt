@@ -21,7 +21,7 @@ unfoldable pub linesOf : List ℕ → List (List ℕ)
 linesOf t = linesFrom [] t
 
 -- what each line gives, to the book that the line before left
-unfoldable pub givenTo : Giving → List ℕ → List (List ℕ) → List ℕ
+unfoldable pub givenTo : {A : Type 0} → Giving A → List ℕ → List (List ℕ) → List A
 givenTo g l [] = []
 givenTo g l (s ∷ ss) = g l s ++ givenTo g (bookAfter l s) ss
 
@@ -29,14 +29,9 @@ givenTo g l (s ∷ ss) = g l s ++ givenTo g (bookAfter l s) ss
 abbrev pub answersTo : List ℕ → List (List ℕ) → List ℕ
 answersTo l ss = givenTo answerTo l ss
 
--- and the records of those that were done
-abbrev pub recordsTo : List ℕ → List (List ℕ) → List ℕ
-recordsTo l ss = givenTo recordTo l ss
-
 -- the requests that lines got done, in order
-unfoldable pub doneIn : List ℕ → List (List ℕ) → List Request
-doneIn l [] = []
-doneIn l (s ∷ ss) = doneBy l s ++ doneIn (bookAfter l s) ss
+abbrev pub doneIn : List ℕ → List (List ℕ) → List Request
+doneIn l ss = givenTo doneBy l ss
 
 unfoldable pub bookAfterAll : List ℕ → List (List ℕ) → List ℕ
 bookAfterAll l [] = l
@@ -65,7 +60,7 @@ unfoldable pub bookAt : List ℕ → List ℕ → ℕ → List ℕ
 bookAt l p b = pick (eqb b lineFeed) (bookAfter l p) l
 
 -- and what it gives
-unfoldable pub givesAt : Giving → List ℕ → List ℕ → ℕ → List ℕ
+unfoldable pub givesAt : {A : Type 0} → Giving A → List ℕ → List ℕ → ℕ → List A
 givesAt g l p b = pick (eqb b lineFeed) (g l p) []
 
 -- the same for all the bytes of a text
@@ -77,12 +72,12 @@ unfoldable pub bookThrough : List ℕ → List ℕ → List ℕ → List ℕ
 bookThrough l p [] = l
 bookThrough l p (b ∷ t) = bookThrough (bookAt l p b) (lineAt p b) t
 
-unfoldable pub givesThrough : Giving → List ℕ → List ℕ → List ℕ → List ℕ
+unfoldable pub givesThrough : {A : Type 0} → Giving A → List ℕ → List ℕ → List ℕ → List A
 givesThrough g l p [] = []
 givesThrough g l p (b ∷ t) = givesAt g l p b ++ givesThrough g (bookAt l p b) (lineAt p b) t
 
 -- at the end of the input a last line counts if not empty
-unfoldable pub givesLast : Giving → List ℕ → List ℕ → List ℕ
+unfoldable pub givesLast : {A : Type 0} → Giving A → List ℕ → List ℕ → List A
 givesLast g l p = pick (eqb (length p) 0) [] (g l p)
 
 unfoldable pub bookLast : List ℕ → List ℕ → List ℕ
@@ -99,7 +94,7 @@ unfoldable pub bookPiece : List ℕ → List ℕ → List ℕ → List ℕ
 bookPiece l p [] = bookLast l p
 bookPiece l p (b ∷ t) = bookThrough l p (b ∷ t)
 
-unfoldable pub givesPiece : Giving → List ℕ → List ℕ → List ℕ → List ℕ
+unfoldable pub givesPiece : {A : Type 0} → Giving A → List ℕ → List ℕ → List ℕ → List A
 givesPiece g l p [] = givesLast g l p
 givesPiece g l p (b ∷ t) = givesThrough g l p (b ∷ t)
 
@@ -112,16 +107,22 @@ unfoldable pub bookPieces : List ℕ → List ℕ → List (List ℕ) → List �
 bookPieces l p [] = l
 bookPieces l p (c ∷ cs) = bookPieces (bookPiece l p c) (linePiece p c) cs
 
-unfoldable pub givesPieces : Giving → List ℕ → List ℕ → List (List ℕ) → List ℕ
+unfoldable pub givesPieces : {A : Type 0} → Giving A → List ℕ → List ℕ → List (List ℕ) → List A
 givesPieces g l p [] = []
 givesPieces g l p (c ∷ cs) = givesPiece g l p c ++ givesPieces g (bookPiece l p c) (linePiece p c) cs
 
--- what is said, and what is logged
+-- what is said, what gets done, and the records of it
 abbrev pub saysPiece : List ℕ → List ℕ → List ℕ → List ℕ
 saysPiece l p c = givesPiece answerTo l p c
 
 abbrev pub saysPieces : List ℕ → List ℕ → List (List ℕ) → List ℕ
 saysPieces l p cs = givesPieces answerTo l p cs
+
+abbrev pub donePiece : List ℕ → List ℕ → List ℕ → List Request
+donePiece l p c = givesPiece doneBy l p c
+
+abbrev pub donePieces : List ℕ → List ℕ → List (List ℕ) → List Request
+donePieces l p cs = givesPieces doneBy l p cs
 
 abbrev pub logPiece : List ℕ → List ℕ → List ℕ → List ℕ
 logPiece l p c = givesPiece recordTo l p c
