@@ -5,5 +5,6 @@ pub mod Cuts
 pub mod Theorems
 pub mod Histories
 pub mod OneJournal
+pub mod ZeroStart
 pub mod Kept
 pub mod Worked
