@@ -25,7 +25,7 @@ use Rattle.calls.specs.Performed.{requestOf}
 use Rattle.line.specs.Grammar.{wordSized}
 use Rattle.line.specs.Reading.{Reading, bad, good, reading}
 use Rattle.line.proofs.Theorems.{read-says}
-use Rattle.recorder.specs.Recording.{recordOf}
+use Rattle.recorder.specs.Promises.{recordOf}
 use Rattle.events.specs.Answering as answering
 use Rattle.events.specs.Answering.{eventBook, eventDone, readingBook, readingDone, doneBy, recordTo, recordRoom}
 
