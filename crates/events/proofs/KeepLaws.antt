@@ -1,6 +1,6 @@
 -- The record of a line: it has its room, and it is the journal of what the line got done, which leaves the line's book. Journals of histories join.
 -- Assumes nothing.
-use Prim.Native.Nat.{ℕ, _≤_, _<_}
+use Prim.Native.Nat.{ℕ, _+_, _≤_, _<_}
 use native.Mathlib.Omega.{arith}
 use mathlib.Core.Path.{_≡_, refl, sym, _∙_, ap, subst}
 use mathlib.Core.Logic.{⊎-elim}
@@ -10,6 +10,7 @@ use lib.Dec.{eqb, leb, lit<}
 use lib.ListN.{length, getD}
 use borrow.Author.Tests.{eqb-true, eqb-false, leb-true}
 use Rattle.loops.proofs.BoolLaws.{decided, and-left, and-right, pick-true, pick-false}
+use Rattle.book.specs.Words.{put}
 use Rattle.upkeep.specs.Requests.{Request, numberAt, bookAfter, last}
 use Rattle.upkeep.proofs.NeverBadAnswer.{refused-stays}
 use Rattle.wire.specs.Wire.{wordLimit, Below}
@@ -24,6 +25,8 @@ use Rattle.request.specs.declared.ask.Event.the-variants as event
 use Rattle.calls.specs.Performed.{requestOf}
 use Rattle.line.specs.Grammar.{wordSized}
 use Rattle.line.specs.Reading.{Reading, bad, good, reading}
+use Rattle.line.specs.Printing.{Wrote}
+use Rattle.line.proofs.PrintLaws.{wrote-same}
 use Rattle.line.proofs.Theorems.{read-says}
 use Rattle.recorder.specs.Promises.{recordOf}
 use Rattle.events.specs.Answering as answering
@@ -32,7 +35,7 @@ use Rattle.events.specs.Answering.{eventBook, eventDone, readingBook, re
 -- ---- what an event got done: one record, or none
 
 module _ (l : List ℕ) (e : Event) (ns : List ℕ) where
-  pub event-record : recordOf l (requestOf e ns) ≡ journal (eventDone l e ns)
+  event-record : recordOf l (requestOf e ns) ≡ journal (eventDone l e ns)
   unfolding recordOf eventDone journal
   event-record =
       ⊎-elim
@@ -40,7 +43,7 @@ module _ (l : List ℕ) (e : Event) (ns : List ℕ) where
       (λ (t : eqb (numberAt l (requestOf e ns)) 0 ≡ false). pick-false _ _ t ∙ sym (ap journal (pick-false _ _ t)))
       (decided (eqb (numberAt l (requestOf e ns)) 0))
 
-  pub event-room : length (recordOf l (requestOf e ns)) ≤ recordRoom
+  event-room : length (recordOf l (requestOf e ns)) ≤ recordRoom
   unfolding recordOf
   event-room =
       ⊎-elim
@@ -48,6 +51,16 @@ module _ (l : List ℕ) (e : Event) (ns : List ℕ) where
       subst (λ (x : List ℕ). length x ≤ recordRoom) (sym (pick-true _ _ t)) (record-few l (requestOf e ns) (eqb-true _ _ t)))
       (λ (t : eqb (numberAt l (requestOf e ns)) 0 ≡ false). subst (λ (x : List ℕ). length x ≤ recordRoom) (sym (pick-false _ _ t)) (omega arith))
       (decided (eqb (numberAt l (requestOf e ns)) 0))
+
+-- where the request q is what the event asks, a record has room, and stands written
+module _ (l : List ℕ) (e : Event) (ns : List ℕ) {q : Request} (p : q ≡ requestOf e ns) where
+  pub asked-few : length (recordOf l q) ≤ recordRoom
+  asked-few = subst (λ (r : Request). length (recordOf l r) ≤ recordRoom) (sym p) (event-room l e ns)
+
+  pub asked-wrote : {o o′ : List ℕ} {at size : ℕ} → o′ ≡ put o at (recordOf l q) → size ≡ length (recordOf l q) → Wrote o at (journal (eventDone l e ns)) o′ (at + size)
+  unfolding put
+  asked-wrote {at = at} stored size =
+      wrote-same (ap (recordOf l) p ∙ event-record l e ns) (record { stored = stored; after = ap (λ (n : ℕ). at + n) size })
 
 reading-room : (l : List ℕ) (r : Reading) → length (journal (readingDone l r)) ≤ recordRoom
 unfolding readingDone journal
