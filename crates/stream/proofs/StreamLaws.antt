@@ -14,7 +14,10 @@ use borrow.Author.Tests.{eq-eqb, ne-eqb, lt-ltb, le-ltb}
 use Rattle.loops.proofs.BoolLaws.{eq-or-ne, pick-true, pick-false}
 use Rattle.line.specs.Printing.{Wrote}
 use Rattle.line.proofs.PrintLaws.{wrote-nothing, wrote-same, wrote-then, wrote-length}
-use Rattle.events.specs.Answering.{lineFeed, Giving, bookAfter}
+use Rattle.reply.specs.Printed.{answerRoom}
+use Rattle.events.specs.Answering.{lineFeed, Giving, answerTo, recordTo, recordRoom, bookAfter}
+use Rattle.events.proofs.SayLaws.{answer-length}
+use Rattle.events.proofs.KeepLaws.{record-length}
 use Rattle.stream.specs.Stream.{lineAt, bookAt, givesAt, lineThrough, bookThrough, givesThrough, bookLast, givesLast, linePiece}
 use Rattle.stream.specs.Stream.{bookPiece, givesPiece, lineIn, Holder}
 
@@ -87,6 +90,10 @@ module _ {m : List ℕ} (h : Holder m) where
 pub held-empty : {m : List ℕ} → Holder m → getD m 121 0 ≡ 0 → lineIn m ≡ []
 unfolding lineIn
 held-empty {m} h none = ap (λ (k : ℕ). take k m) none
+
+-- and one whose count is something holds some
+pub held-some : {m : List ℕ} → Holder m → (getD m 121 0 ≡ 0 → ⊥) → length (lineIn m) ≡ 0 → ⊥
+held-some h n z = n (sym (held-length h) ∙ z)
 
 -- ---- pieces may be cut anywhere
 
@@ -171,6 +178,12 @@ module _ {g : Giving ℕ} {n : ℕ} (m : Most g n) where
       let most = piece-length l p c in
       let same = wrote-length w in
       omega (arith, w .after)
+
+pub answers-most : Most answerTo answerRoom
+answers-most = record { most = answer-length }
+
+pub records-most : Most recordTo recordRoom
+records-most = record { most = record-length }
 
 -- ---- after i bytes of the piece t
 
