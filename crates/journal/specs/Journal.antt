@@ -93,6 +93,10 @@ endBy Strange p = 110
 unfoldable pub endOf : Recovered → ℕ
 endOf s = endBy (s .fault) (s .rest)
 
+-- the same, n records of m bytes further on
+unfoldable pub further : ℕ → ℕ → Recovered → Recovered
+further n m s = record { book = s .book; done = n + s .done; bytes = m + s .bytes; rest = s .rest; fault = s .fault }
+
 -- ---- whatever the bytes are
 
 -- how recovery ends, with the bytes that it did not look at: behind a whole record, or before any; within a record whose first byte is a kind and which has more
