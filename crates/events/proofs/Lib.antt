@@ -1,1 +1,2 @@
 pub mod SayLaws
+pub mod KeepLaws

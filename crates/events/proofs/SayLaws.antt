@@ -26,6 +26,7 @@ use Rattle.register.specs.Table.{listNumber}
 use Rattle.register.proofs.HomeLaws.{told-entries}
 use Rattle.register.proofs.ListTable.{list-done, list-size-in}
 use Rattle.upkeep.specs.Requests.{numberAt, doneAnswer, replyTo}
+use Rattle.journal.specs.Journal.{journal}
 use Rattle.calls.specs.Performed.{requestOf}
 use Rattle.line.specs.Grammar.{mostNumbers, InGrammar}
 use Rattle.line.specs.Reading.{Reading, bad, good, reading, lineOf}
@@ -37,7 +38,7 @@ use Rattle.line.proofs.PrintLaws.{wrote-length, decimal-length}
 use Rattle.reply.specs.Printed.{answerRoom}
 use Rattle.reply.proofs.PageLaws.{AllFew}
 use Rattle.reply.proofs.RoomLaws.{Short, no-list, printed-length}
-use Rattle.events.specs.Answering.{eventSays, readingSays, readingBook, answerTo}
+use Rattle.events.specs.Answering.{eventSays, readingSays, readingBook, readingDone, answerTo}
 
 -- ---- the numbers of a line
 
@@ -76,10 +77,12 @@ module _ {t : Line} (s : List ℕ) (p : t ≡ lineOf (reading s)) where
 
 -- ---- what a line says, known by its case
 
-pub answered-reading :
-    {q q′ : Reading} (l : List ℕ) {l′ o o′ : List ℕ} {at r : ℕ} → q ≡ q′ → (l′ ≡ readingBook l q′) × Wrote o at (readingSays l q′) o′ r →
-    (l′ ≡ readingBook l q) × Wrote o at (readingSays l q) o′ r
-answered-reading l {l′} {o} {o′} {at} {r} p w = subst (λ (x : Reading). (l′ ≡ readingBook l x) × Wrote o at (readingSays l x) o′ r) (sym p) w
+pub kept-reading : {q q′ : Reading} (l : List ℕ) {l′ o o′ j j′ : List ℕ} {at r k i : ℕ}
+    → q ≡ q′
+    → (l′ ≡ readingBook l q′) × (Wrote o at (readingSays l q′) o′ r × Wrote j k (journal (readingDone l q′)) j′ i)
+    → (l′ ≡ readingBook l q) × (Wrote o at (readingSays l q) o′ r × Wrote j k (journal (readingDone l q)) j′ i)
+kept-reading l {l′} {o} {o′} {j} {j′} {at} {r} {k} {i} p w =
+    subst (λ (x : Reading). (l′ ≡ readingBook l x) × (Wrote o at (readingSays l x) o′ r × Wrote j k (journal (readingDone l x)) j′ i)) (sym p) w
 
 -- ---- no answer is longer than its room
 

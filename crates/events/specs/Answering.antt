@@ -1,10 +1,13 @@
--- The desk: what it says to a line, and what a line does to the book. Any bytes are a line.
+-- The desk: what it says to a line, what a line does to the book, and the record of it. Any bytes are a line.
 -- Assumes nothing.
 use Prim.Native.Nat.{ℕ}
 use mathlib.Core.List.{List, [], _∷_, _++_}
+use lib.Dec.{eqb}
+use Rattle.loops.specs.Loops.{pick}
 use Rattle.request.specs.declared.ask.Event.{Event}
 use Rattle.upkeep.specs.Requests as requests
-use Rattle.upkeep.specs.Requests.{replyTo}
+use Rattle.upkeep.specs.Requests.{Request, numberAt, replyTo}
+use Rattle.journal.specs.Journal.{journal}
 use Rattle.calls.specs.Performed.{requestOf}
 use Rattle.line.specs.Reading.{Reading, bad, good, reading}
 use Rattle.line.specs.Answers.{numberAnswer}
@@ -41,3 +44,30 @@ answerTo l s = readingSays l (reading s) ++ (lineFeed ∷ [])
 -- the book after the line s
 unfoldable pub bookAfter : List ℕ → List ℕ → List ℕ
 bookAfter l s = readingBook l (reading s)
+
+-- ---- the record
+
+-- what an event and its numbers got done: the request, if its number is 0
+unfoldable pub eventDone : List ℕ → Event → List ℕ → List Request
+eventDone l e ns = pick (eqb (numberAt l (requestOf e ns)) 0) (requestOf e ns ∷ []) []
+
+-- the same of what a line says; a bad line gets nothing done
+unfoldable pub readingDone : List ℕ → Reading → List Request
+readingDone l bad = []
+readingDone l (good e ns) = eventDone l e ns
+
+-- what the line s got done
+unfoldable pub doneBy : List ℕ → List ℕ → List Request
+doneBy l s = readingDone l (reading s)
+
+-- and its record: nothing where the line is bad or refused
+unfoldable pub recordTo : List ℕ → List ℕ → List ℕ
+recordTo l s = journal (doneBy l s)
+
+-- no record of a request that is done is longer
+abbrev pub recordRoom : ℕ
+recordRoom = 82
+
+-- what a line gives, as an answer, a record or what it got done: a list that follows from the book before it and the line
+abbrev pub Giving : Type 0 → Type 0
+Giving A = List ℕ → List ℕ → List A

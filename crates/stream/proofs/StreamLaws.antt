@@ -1,6 +1,8 @@
--- The laws of the input byte by byte: what one byte does, that pieces may be cut anywhere, and what a loop over a piece knows after i bytes.
+-- The laws of the input byte by byte: what one byte does, that pieces may be cut anywhere, and what a loop over a piece knows after i bytes. What a line gives, its
+-- answer or its record, is g.
 -- Assumes nothing.
 use Prim.Native.Nat.{ℕ, _+_, _*_, _≤_, _<_}
+use native.Mathlib.Nat.{mul-le-mul-left}
 use native.Mathlib.Numerals.{add-one}
 use native.Mathlib.Omega.{arith}
 use mathlib.Core.Path.{_≡_, refl, sym, _∙_, ap, ap₂, subst}
@@ -13,10 +15,11 @@ use Rattle.loops.proofs.BoolLaws.{eq-or-ne, pick-true, pick-false}
 use Rattle.line.specs.Printing.{Wrote}
 use Rattle.line.proofs.PrintLaws.{wrote-nothing, wrote-same, wrote-then, wrote-length}
 use Rattle.reply.specs.Printed.{answerRoom}
-use Rattle.events.specs.Answering.{lineFeed, answerTo, bookAfter}
-use Rattle.stream.specs.Stream.{lineAt, bookAt, saysAt, lineThrough, bookThrough, saysThrough, bookLast, saysLast, linePiece}
-use Rattle.stream.specs.Stream.{bookPiece, saysPiece, linePieces, bookPieces, zeroBook, lineIn, Holder, Served}
+use Rattle.events.specs.Answering.{lineFeed, Giving, answerTo, recordTo, recordRoom, bookAfter}
 use Rattle.events.proofs.SayLaws.{answer-length}
+use Rattle.events.proofs.KeepLaws.{record-length}
+use Rattle.stream.specs.Stream.{lineAt, bookAt, givesAt, lineThrough, bookThrough, givesThrough, bookLast, givesLast, linePiece}
+use Rattle.stream.specs.Stream.{bookPiece, givesPiece, lineIn, Holder}
 
 -- ---- one byte
 
@@ -38,17 +41,18 @@ module _ (l p : List ℕ) (b : ℕ) where
   unfolding bookAt
   book-ends h = pick-true _ _ (eq-eqb b 10 h)
 
-  pub says-ends : b ≡ lineFeed → saysAt l p b ≡ answerTo l p
-  unfolding saysAt
-  says-ends h = pick-true _ _ (eq-eqb b 10 h)
-
   pub book-stays : (b ≡ lineFeed → ⊥) → bookAt l p b ≡ l
   unfolding bookAt
   book-stays h = pick-false _ _ (ne-eqb b 10 h)
 
-  pub says-nothing : (b ≡ lineFeed → ⊥) → saysAt l p b ≡ []
-  unfolding saysAt
-  says-nothing h = pick-false _ _ (ne-eqb b 10 h)
+module _ {A : Type 0} (g : Giving A) (l p : List ℕ) (b : ℕ) where
+  pub gives-ends : b ≡ lineFeed → givesAt g l p b ≡ g l p
+  unfolding givesAt
+  gives-ends h = pick-true _ _ (eq-eqb b 10 h)
+
+  pub gives-nothing : (b ≡ lineFeed → ⊥) → givesAt g l p b ≡ []
+  unfolding givesAt
+  gives-nothing h = pick-false _ _ (ne-eqb b 10 h)
 
 -- ---- the buffer of the line so far
 
@@ -82,6 +86,15 @@ module _ {m : List ℕ} (h : Holder m) where
             ∙ ap₂ (λ (x : List ℕ) (y : ℕ). x ++ (y ∷ [])) (take-set-le kept m kept b (omega arith)) byte,
       )
 
+-- a buffer whose count is nothing holds no line
+pub held-empty : {m : List ℕ} → Holder m → getD m 121 0 ≡ 0 → lineIn m ≡ []
+unfolding lineIn
+held-empty {m} h none = ap (λ (k : ℕ). take k m) none
+
+-- and one whose count is something holds some
+pub held-some : {m : List ℕ} → Holder m → (getD m 121 0 ≡ 0 → ⊥) → length (lineIn m) ≡ 0 → ⊥
+held-some h n z = n (sym (held-length h) ∙ z)
+
 -- ---- pieces may be cut anywhere
 
 pub line-append : (p s t : List ℕ) → lineThrough p (s ++ t) ≡ lineThrough (lineThrough p s) t
@@ -94,147 +107,189 @@ unfolding bookThrough lineThrough
 book-append l p [] t = refl
 book-append l p (b ∷ s) t = book-append (bookAt l p b) (lineAt p b) s t
 
-pub says-append : (l p s t : List ℕ) → saysThrough l p (s ++ t) ≡ saysThrough l p s ++ saysThrough (bookThrough l p s) (lineThrough p s) t
-unfolding saysThrough bookThrough lineThrough
-says-append l p [] t = refl
-says-append l p (b ∷ s) t =
-    ap (λ (x : List ℕ). saysAt l p b ++ x) (says-append (bookAt l p b) (lineAt p b) s t)
-    ∙ sym (append-assoc (saysAt l p b) (saysThrough (bookAt l p b) (lineAt p b) s) _)
+pub gives-append : {A : Type 0} (g : Giving A) (l p s t : List ℕ) → givesThrough g l p (s ++ t) ≡ givesThrough g l p s ++ givesThrough g (bookThrough l p s) (lineThrough p s) t
+unfolding givesThrough bookThrough lineThrough
+gives-append g l p [] t = refl
+gives-append {A} g l p (b ∷ s) t =
+    ap (λ (x : List A). givesAt g l p b ++ x) (gives-append g (bookAt l p b) (lineAt p b) s t)
+    ∙ sym (append-assoc (givesAt g l p b) (givesThrough g (bookAt l p b) (lineAt p b) s) _)
 
 -- one byte more
-module _ (p t : List ℕ) (i : ℕ) (h : i < length t) where
+module _ (t : List ℕ) (i : ℕ) (h : i < length t) where
   one-more : take (i + 1) t ≡ take i t ++ (getD t i 0 ∷ [])
   one-more = rw (add-one, take-suc t i 0 h)
 
-  line-more : lineThrough p (take (i + 1) t) ≡ lineAt (lineThrough p (take i t)) (getD t i 0)
+  line-more : (p : List ℕ) → lineThrough p (take (i + 1) t) ≡ lineAt (lineThrough p (take i t)) (getD t i 0)
   unfolding lineThrough
-  line-more = ap (lineThrough p) one-more ∙ line-append p (take i t) (getD t i 0 ∷ [])
+  line-more p = ap (lineThrough p) one-more ∙ line-append p (take i t) (getD t i 0 ∷ [])
 
-module _ (l p t : List ℕ) (i : ℕ) (h : i < length t) where
-  book-more : bookThrough l p (take (i + 1) t) ≡ bookAt (bookThrough l p (take i t)) (lineThrough p (take i t)) (getD t i 0)
+  book-more : (l p : List ℕ) → bookThrough l p (take (i + 1) t) ≡ bookAt (bookThrough l p (take i t)) (lineThrough p (take i t)) (getD t i 0)
   unfolding bookThrough
-  book-more = ap (bookThrough l p) (one-more p t i h) ∙ book-append l p (take i t) (getD t i 0 ∷ [])
+  book-more l p = ap (bookThrough l p) one-more ∙ book-append l p (take i t) (getD t i 0 ∷ [])
 
-  says-more :
-      saysThrough l p (take (i + 1) t) ≡ saysThrough l p (take i t) ++ saysAt (bookThrough l p (take i t)) (lineThrough p (take i t)) (getD t i 0)
-  unfolding saysThrough
-  says-more =
-      ap (saysThrough l p) (one-more p t i h)
-      ∙ says-append l p (take i t) (getD t i 0 ∷ [])
-      ∙ ap (λ (x : List ℕ). saysThrough l p (take i t) ++ x) (append-nil _)
+  gives-more :
+      {A : Type 0} (g : Giving A) (l p : List ℕ) →
+      givesThrough g l p (take (i + 1) t) ≡ givesThrough g l p (take i t) ++ givesAt g (bookThrough l p (take i t)) (lineThrough p (take i t)) (getD t i 0)
+  unfolding givesThrough
+  gives-more {A} g l p =
+      ap (givesThrough g l p) one-more
+      ∙ gives-append g l p (take i t) (getD t i 0 ∷ [])
+      ∙ ap (λ (x : List A). givesThrough g l p (take i t) ++ x) (append-nil _)
 
--- no byte is answered by more than an answer's room
-pub says-at-length : (l p : List ℕ) (b : ℕ) → length (saysAt l p b) ≤ answerRoom
-says-at-length l p b =
-    ⊎-elim
-    (λ (e : b ≡ 10). subst (λ (x : List ℕ). length x ≤ answerRoom) (sym (says-ends l p b e)) (answer-length l p))
-    (λ (e : b ≡ 10 → ⊥). subst (λ (x : List ℕ). length x ≤ answerRoom) (sym (says-nothing l p b e)) (omega arith))
-    (eq-or-ne b 10)
+-- ---- how much is given at most
+
+-- a line gives no more than n bytes
+pub record Most (g : Giving ℕ) (n : ℕ) : Type 0 where
+  pub most : (l s : List ℕ) → length (g l s) ≤ n
+
+module _ {g : Giving ℕ} {n : ℕ} (m : Most g n) where
+  at-length : (l p : List ℕ) (b : ℕ) → length (givesAt g l p b) ≤ n
+  at-length l p b =
+      ⊎-elim
+      (λ (e : b ≡ 10). subst (λ (x : List ℕ). length x ≤ n) (sym (gives-ends g l p b e)) (m .most l p))
+      (λ (e : b ≡ 10 → ⊥). subst (λ (x : List ℕ). length x ≤ n) (sym (gives-nothing g l p b e)) (omega arith))
+      (eq-or-ne b 10)
+
+  last-length : (l p : List ℕ) → length (givesLast g l p) ≤ n
+  unfolding givesLast
+  last-length l p =
+      ⊎-elim
+      (λ (e : length p ≡ 0). subst (λ (x : List ℕ). length x ≤ n) (sym (pick-true _ _ (eq-eqb _ 0 e))) (omega arith))
+      (λ (e : length p ≡ 0 → ⊥). subst (λ (x : List ℕ). length x ≤ n) (sym (pick-false _ _ (ne-eqb _ 0 e))) (m .most l p))
+      (eq-or-ne (length p) 0)
+
+  through-length : (l p t : List ℕ) → length (givesThrough g l p t) ≤ n * length t
+  unfolding givesThrough
+  through-length l p [] = omega arith
+  through-length l p (b ∷ t) =
+      let one = at-length l p b in
+      let rest = through-length (bookAt l p b) (lineAt p b) t in
+      let both = length-append (givesAt g l p b) (givesThrough g (bookAt l p b) (lineAt p b) t) in
+      omega arith
+
+  pub piece-length : (l p c : List ℕ) → length (givesPiece g l p c) ≤ n * (length c + 1)
+  unfolding givesPiece
+  piece-length l p [] = let h = last-length l p in omega arith
+  piece-length l p (b ∷ c) = let h = through-length l p (b ∷ c) in omega arith
+
+  -- so what a piece gives ends in a buffer that has the room for it
+  pub piece-room : (l p c : List ℕ) {o o′ : List ℕ} {next : ℕ} → Wrote o 0 (givesPiece g l p c) o′ next → n * (length c + 1) ≤ length o → next ≤ length o′
+  piece-room l p c w h =
+      let most = piece-length l p c in
+      let same = wrote-length w in
+      omega (arith, w .after)
+
+pub answers-most : Most answerTo answerRoom
+answers-most = record { most = answer-length }
+
+pub records-most : Most recordTo recordRoom
+records-most = record { most = record-length }
 
 -- ---- after i bytes of the piece t
 
-pub record Fed (l₀ p₀ t o₀ l line o : List ℕ) (next i : ℕ) : Type 0 where
+-- the book, and the line so far
+pub record Fed (l₀ p₀ t l line : List ℕ) (i : ℕ) : Type 0 where
   pub inside : i ≤ length t
   pub holder : Holder line
   pub words : l ≡ bookThrough l₀ p₀ (take i t)
   pub so-far : lineIn line ≡ lineThrough p₀ (take i t)
-  pub said : Wrote o₀ 0 (saysThrough l₀ p₀ (take i t)) o next
-  pub room : next ≤ answerRoom * i
 
-pub fed-start : (l₀ line t o₀ : List ℕ) → Holder line → Fed l₀ (lineIn line) t o₀ l₀ line o₀ 0 0
-unfolding bookThrough lineThrough saysThrough
-fed-start l₀ line t o₀ h = record { inside = omega arith; holder = h; words = refl; so-far = refl; said = wrote-nothing o₀ 0; room = omega arith }
+-- and what was given, in the buffer o before the place next
+pub record Given (g : Giving ℕ) (n : ℕ) (l₀ p₀ t o₀ o : List ℕ) (next i : ℕ) : Type 0 where
+  pub wrote : Wrote o₀ 0 (givesThrough g l₀ p₀ (take i t)) o next
+  pub room : next ≤ n * i
 
-pub fed-room : {l₀ p₀ t o₀ l line o : List ℕ} {next i : ℕ} → Fed l₀ p₀ t o₀ l line o next i → i < length t → answerRoom * length t ≤ length o₀ → next + answerRoom ≤ length o
-fed-room f h k = let e = wrote-length (f .said) in omega (arith, f .room)
+pub fed-start : (l₀ line t : List ℕ) → Holder line → Fed l₀ (lineIn line) t l₀ line 0
+unfolding bookThrough lineThrough
+fed-start l₀ line t h = record { inside = omega arith; holder = h; words = refl; so-far = refl }
 
-pub fed-step : {l₀ p₀ t o₀ l line o l′ line′ o′ : List ℕ} {next i next′ : ℕ}
-    → Fed l₀ p₀ t o₀ l line o next i
-    → i < length t
-    → l′ ≡ bookAt l (lineIn line) (getD t i 0)
-    → Holder line′ × (lineIn line′ ≡ lineAt (lineIn line) (getD t i 0))
-    → Wrote o next (saysAt l (lineIn line) (getD t i 0)) o′ next′
-    → Fed l₀ p₀ t o₀ l′ line′ o′ next′ (i + 1)
-fed-step {l₀} {p₀} {t} {o₀} {l} {line} {o} {l′} {line′} {o′} {next} {i} {next′} f h words so-far said =
-    record {
-      inside = omega arith;
-      holder = so-far .0;
-      words = words ∙ ap₂ (λ (x y : List ℕ). bookAt x y (getD t i 0)) (f .words) (f .so-far) ∙ sym (book-more l₀ p₀ t i h);
-      so-far = so-far .1 ∙ ap (λ (y : List ℕ). lineAt y (getD t i 0)) (f .so-far) ∙ sym (line-more p₀ t i h);
-      said =
-          wrote-same
-          (ap (λ (z : List ℕ). saysThrough l₀ p₀ (take i t) ++ z) (ap₂ (λ (x y : List ℕ). saysAt x y (getD t i 0)) (f .words) (f .so-far))
-          ∙ sym (says-more l₀ p₀ t i h))
-          (wrote-then (f .said) said);
-      room = let k = says-at-length l (lineIn line) (getD t i 0) in omega (arith, f .room, said .after);
-    }
+pub given-start : (g : Giving ℕ) (n : ℕ) (l₀ p₀ t o₀ : List ℕ) → Given g n l₀ p₀ t o₀ o₀ 0 0
+unfolding givesThrough
+given-start g n l₀ p₀ t o₀ = record { wrote = wrote-nothing o₀ 0; room = omega arith }
+
+pub given-room : {g : Giving ℕ} {n : ℕ} {l₀ p₀ t o₀ o : List ℕ} {next i : ℕ} → Given g n l₀ p₀ t o₀ o next i → i < length t → n * length t ≤ length o₀ → next + n ≤ length o
+given-room {n = n} {t = t} {i = i} w h k =
+    let e = wrote-length (w .wrote) in
+    let more : n * (i + 1) ≤ n * length t = mul-le-mul-left n (omega arith) in
+    omega (arith, w .room)
+
+module _ {l₀ p₀ t l line : List ℕ} {i : ℕ} (f : Fed l₀ p₀ t l line i) (h : i < length t) where
+  pub fed-step : {l′ line′ : List ℕ}
+      → l′ ≡ bookAt l (lineIn line) (getD t i 0)
+      → Holder line′ × (lineIn line′ ≡ lineAt (lineIn line) (getD t i 0))
+      → Fed l₀ p₀ t l′ line′ (i + 1)
+  fed-step words so-far =
+      record {
+        inside = omega arith;
+        holder = so-far .0;
+        words = words ∙ ap₂ (λ (x y : List ℕ). bookAt x y (getD t i 0)) (f .words) (f .so-far) ∙ sym (book-more t i h l₀ p₀);
+        so-far = so-far .1 ∙ ap (λ (y : List ℕ). lineAt y (getD t i 0)) (f .so-far) ∙ sym (line-more t i h p₀);
+      }
+
+  pub given-step : {g : Giving ℕ} {n : ℕ} {o₀ o o′ : List ℕ} {next next′ : ℕ}
+      → Most g n
+      → Given g n l₀ p₀ t o₀ o next i
+      → Wrote o next (givesAt g l (lineIn line) (getD t i 0)) o′ next′
+      → Given g n l₀ p₀ t o₀ o′ next′ (i + 1)
+  given-step {g} {n} m w more =
+      record {
+        wrote =
+            wrote-same
+            (ap (λ (z : List ℕ). givesThrough g l₀ p₀ (take i t) ++ z) (ap₂ (λ (x y : List ℕ). givesAt g x y (getD t i 0)) (f .words) (f .so-far))
+            ∙ sym (gives-more t i h g l₀ p₀))
+            (wrote-then (w .wrote) more);
+        room = let k = at-length m l (lineIn line) (getD t i 0) in omega (arith, w .room, more .after);
+      }
 
 -- after all of them
-module _ {l₀ p₀ t o₀ l line o : List ℕ} {next i : ℕ} (f : Fed l₀ p₀ t o₀ l line o next i) (h : length t ≤ i) where
+module _ {l₀ p₀ t l line : List ℕ} {i : ℕ} (f : Fed l₀ p₀ t l line i) (h : length t ≤ i) where
   pub fed-words : l ≡ bookThrough l₀ p₀ t
   fed-words = f .words ∙ ap (bookThrough l₀ p₀) (take-all i t h)
 
   pub fed-line : lineIn line ≡ lineThrough p₀ t
   fed-line = f .so-far ∙ ap (lineThrough p₀) (take-all i t h)
 
-  pub fed-said : Wrote o₀ 0 (saysThrough l₀ p₀ t) o next
-  fed-said = wrote-same (ap (saysThrough l₀ p₀) (take-all i t h)) (f .said)
+pub given-all : {g : Giving ℕ} {n : ℕ} {l₀ p₀ t o₀ o : List ℕ} {next i : ℕ} → Given g n l₀ p₀ t o₀ o next i → length t ≤ i → Wrote o₀ 0 (givesThrough g l₀ p₀ t) o next
+given-all {g} {l₀ = l₀} {p₀ = p₀} {t = t} {i = i} w h = wrote-same (ap (givesThrough g l₀ p₀) (take-all i t h)) (w .wrote)
 
 -- ---- the end of the input
 
-module _ (l p : List ℕ) where
-  pub last-none : length p ≡ 0 → (bookLast l p ≡ l) × (saysLast l p ≡ [])
-  unfolding bookLast saysLast
-  last-none h = (pick-true _ _ (eq-eqb _ 0 h), pick-true _ _ (eq-eqb _ 0 h))
+module _ (l p : List ℕ) (h : length p ≡ 0) where
+  pub last-none : bookLast l p ≡ l
+  unfolding bookLast
+  last-none = pick-true _ _ (eq-eqb _ 0 h)
 
-  pub last-some : (length p ≡ 0 → ⊥) → (bookLast l p ≡ bookAfter l p) × (saysLast l p ≡ answerTo l p)
-  unfolding bookLast saysLast
-  last-some h = (pick-false _ _ (ne-eqb _ 0 h), pick-false _ _ (ne-eqb _ 0 h))
+  pub last-gives-none : {A : Type 0} (g : Giving A) → givesLast g l p ≡ []
+  unfolding givesLast
+  last-gives-none g = pick-true _ _ (eq-eqb _ 0 h)
 
--- a buffer whose count is nothing holds no line
-pub held-empty : {m : List ℕ} → Holder m → getD m 121 0 ≡ 0 → lineIn m ≡ []
-unfolding lineIn
-held-empty {m} h none = ap (λ (k : ℕ). take k m) none
+module _ (l p : List ℕ) (h : length p ≡ 0 → ⊥) where
+  pub last-some : bookLast l p ≡ bookAfter l p
+  unfolding bookLast
+  last-some = pick-false _ _ (ne-eqb _ 0 h)
+
+  pub last-gives : {A : Type 0} (g : Giving A) → givesLast g l p ≡ g l p
+  unfolding givesLast
+  last-gives g = pick-false _ _ (ne-eqb _ 0 h)
 
 -- ---- a piece
 
-pub piece-end : (l p c : List ℕ) → length c ≡ 0 → (bookPiece l p c ≡ bookLast l p) × (linePiece p c ≡ []) × (saysPiece l p c ≡ saysLast l p)
-unfolding bookPiece linePiece saysPiece
-piece-end l p [] h = (refl, refl, refl)
+pub piece-end : (l p c : List ℕ) → length c ≡ 0 → (bookPiece l p c ≡ bookLast l p) × (linePiece p c ≡ [])
+unfolding bookPiece linePiece
+piece-end l p [] h = (refl, refl)
 piece-end l p (b ∷ c) h = absurd (omega arith)
 
-pub piece-some : (l p c : List ℕ) → (length c ≡ 0 → ⊥)
-    → (bookPiece l p c ≡ bookThrough l p c) × (linePiece p c ≡ lineThrough p c) × (saysPiece l p c ≡ saysThrough l p c)
-unfolding bookPiece linePiece saysPiece
+pub piece-gives-end : {A : Type 0} (g : Giving A) (l p c : List ℕ) → length c ≡ 0 → givesPiece g l p c ≡ givesLast g l p
+unfolding givesPiece
+piece-gives-end g l p [] h = refl
+piece-gives-end g l p (b ∷ c) h = absurd (omega arith)
+
+pub piece-some : (l p c : List ℕ) → (length c ≡ 0 → ⊥) → (bookPiece l p c ≡ bookThrough l p c) × (linePiece p c ≡ lineThrough p c)
+unfolding bookPiece linePiece
 piece-some l p [] h = absurd (h refl)
-piece-some l p (b ∷ c) h = (refl, refl, refl)
+piece-some l p (b ∷ c) h = (refl, refl)
 
--- ---- how much is said at most
-
-says-through-length : (l p t : List ℕ) → length (saysThrough l p t) ≤ answerRoom * length t
-unfolding saysThrough
-says-through-length l p [] = omega arith
-says-through-length l p (b ∷ t) =
-    let one = says-at-length l p b in
-    let rest = says-through-length (bookAt l p b) (lineAt p b) t in
-    let both = length-append (saysAt l p b) (saysThrough (bookAt l p b) (lineAt p b) t) in
-    omega arith
-
-says-last-length : (l p : List ℕ) → length (saysLast l p) ≤ answerRoom
-says-last-length l p =
-    ⊎-elim
-    (λ (e : length p ≡ 0). subst (λ (x : List ℕ). length x ≤ answerRoom) (sym (last-none l p e .1)) (omega arith))
-    (λ (e : length p ≡ 0 → ⊥). subst (λ (x : List ℕ). length x ≤ answerRoom) (sym (last-some l p e .1)) (answer-length l p))
-    (eq-or-ne (length p) 0)
-
-pub says-piece-length : (l p c : List ℕ) → length (saysPiece l p c) ≤ answerRoom * (length c + 1)
-unfolding saysPiece
-says-piece-length l p [] = says-last-length l p
-says-piece-length l p (b ∷ c) = let h = says-through-length l p (b ∷ c) in omega arith
-
--- so the answers to a piece end in an output that has the room for them
-pub piece-room : (l p c : List ℕ) {o o′ : List ℕ} {next : ℕ} → Wrote o 0 (saysPiece l p c) o′ next → answerRoom * (length c + 1) ≤ length o → next ≤ length o′
-piece-room l p c w h =
-    let most = says-piece-length l p c in
-    let same = wrote-length w in
-    omega (arith, w .after)
+pub piece-gives : {A : Type 0} (g : Giving A) (l p c : List ℕ) → (length c ≡ 0 → ⊥) → givesPiece g l p c ≡ givesThrough g l p c
+unfolding givesPiece
+piece-gives g l p [] h = absurd (h refl)
+piece-gives g l p (b ∷ c) h = refl

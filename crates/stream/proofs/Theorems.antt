@@ -1,4 +1,5 @@
--- The desk on a whole input: whatever pieces it comes in, what is said to its bytes and at its end is one answer for each line, in order.
+-- The desk on a whole input: whatever pieces it comes in, what is said to its bytes and at its end is one answer for each line, in order, and what gets done is what
+-- its lines get done.
 -- Keeping 121 bytes of a line is enough: a longer one is bad, and so is what is kept of it.
 -- Assumes nothing.
 use Prim.Native.Nat.{ℕ, zero, suc, _≤_, _<_}
@@ -13,10 +14,11 @@ use borrow.Author.Tests.{eq-eqb, ne-eqb}
 use Rattle.loops.proofs.BoolLaws.{le-or-lt, eq-or-ne, pick-true, pick-false}
 use Rattle.line.specs.Reading.{Reading, reading}
 use Rattle.line.proofs.LineLaws.{reading-cut}
-use Rattle.events.specs.Answering.{lineFeed, readingSays, readingBook, answerTo, bookAfter}
-use Rattle.stream.specs.Stream.{linesFrom, linesOf, answersTo, bookAfterAll, zeroBook, output, lineAt, bookAt, saysAt, lineThrough, bookThrough, saysThrough, saysLast}
-use Rattle.stream.specs.Stream.{bookLast, linePiece, bookPiece, saysPiece, linePieces, bookPieces, saysPieces, joined, Pieces, lineIn, Holder, Served}
-use Rattle.stream.proofs.StreamLaws.{line-ends, book-ends, says-ends, line-grows, line-full, book-stays, says-nothing, line-append, book-append, says-append, piece-some}
+use Rattle.events.specs.Answering.{lineFeed, Giving, readingSays, readingDone, readingBook, answerTo, doneBy, bookAfter}
+use Rattle.stream.specs.Stream.{linesFrom, linesOf, givenTo, doneIn, bookAfterAll, zeroBook, output, lineAt, bookAt, givesAt, lineThrough, bookThrough, givesThrough}
+use Rattle.stream.specs.Stream.{givesLast, bookLast, linePiece, bookPiece, givesPiece, linePieces, bookPieces, givesPieces, saysPieces, donePieces, joined, Pieces}
+use Rattle.stream.specs.Stream.{lineIn, Holder, Served}
+use Rattle.stream.proofs.StreamLaws.{line-ends, book-ends, gives-ends, line-grows, line-full, book-stays, gives-nothing, line-append, book-append, gives-append, piece-some, piece-gives}
 
 -- ---- what is kept of a line serves for the line
 
@@ -31,9 +33,20 @@ cut-reading p =
     (λ (h : 121 < length p). reading-cut p 121 (omega arith) (omega arith))
     (le-or-lt (length p) 121)
 
-cut-answer : (l p : List ℕ) → answerTo l (cutTo p) ≡ answerTo l p
+-- what a line gives goes by what it says
+pub record Read {A : Type 0} (g : Giving A) : Type 0 where
+  pub same : (l s t : List ℕ) → reading s ≡ reading t → g l s ≡ g l t
+
+pub answers-read : Read answerTo
 unfolding answerTo
-cut-answer l p = ap (λ (r : Reading). readingSays l r ++ (lineFeed ∷ [])) (cut-reading p)
+answers-read = record { same = λ l s t e. ap (λ (r : Reading). readingSays l r ++ (lineFeed ∷ [])) e }
+
+pub done-read : Read doneBy
+unfolding doneBy
+done-read = record { same = λ l s t e. ap (readingDone l) e }
+
+cut-gives : {A : Type 0} {g : Giving A} → Read g → (l p : List ℕ) → g l (cutTo p) ≡ g l p
+cut-gives r l p = r .same l (cutTo p) p (cut-reading p)
 
 cut-book : (l p : List ℕ) → bookAfter l (cutTo p) ≡ bookAfter l p
 unfolding bookAfter
@@ -60,48 +73,48 @@ some-empty (suc n) (b ∷ p) h =
 cut-empty : (p : List ℕ) → eqb (length (cutTo p)) 0 ≡ eqb (length p) 0
 cut-empty p = some-empty 121 p (omega arith)
 
--- ---- what is said to the bytes, and then at the end
+-- ---- what the bytes give, and then the end
 
-unfoldable pub saysAll : List ℕ → List ℕ → List ℕ → List ℕ
-saysAll l p t = saysThrough l p t ++ saysLast (bookThrough l p t) (lineThrough p t)
+unfoldable pub givesAll : {A : Type 0} → Giving A → List ℕ → List ℕ → List ℕ → List A
+givesAll g l p t = givesThrough g l p t ++ givesLast g (bookThrough l p t) (lineThrough p t)
 
 unfoldable pub bookAll : List ℕ → List ℕ → List ℕ → List ℕ
 bookAll l p t = bookLast (bookThrough l p t) (lineThrough p t)
 
-says-next : (l p : List ℕ) (b : ℕ) (t : List ℕ) → saysAll l p (b ∷ t) ≡ saysAt l p b ++ saysAll (bookAt l p b) (lineAt p b) t
-unfolding saysAll saysThrough bookThrough lineThrough
-says-next l p b t = append-assoc (saysAt l p b) (saysThrough (bookAt l p b) (lineAt p b) t) _
+gives-next : {A : Type 0} (g : Giving A) (l p : List ℕ) (b : ℕ) (t : List ℕ) → givesAll g l p (b ∷ t) ≡ givesAt g l p b ++ givesAll g (bookAt l p b) (lineAt p b) t
+unfolding givesAll givesThrough bookThrough lineThrough
+gives-next g l p b t = append-assoc (givesAt g l p b) (givesThrough g (bookAt l p b) (lineAt p b) t) _
 
 book-next : (l p : List ℕ) (b : ℕ) (t : List ℕ) → bookAll l p (b ∷ t) ≡ bookAll (bookAt l p b) (lineAt p b) t
 unfolding bookAll bookThrough lineThrough
 book-next l p b t = refl
 
 -- a text whose first line begins with p
-pub says-lines : (l p t : List ℕ) → saysAll l (cutTo p) t ≡ answersTo l (linesFrom p t)
-unfolding saysAll saysThrough bookThrough lineThrough saysLast linesFrom answersTo
-says-lines l p [] =
+pub gives-lines : {A : Type 0} {g : Giving A} → Read g → (l p t : List ℕ) → givesAll g l (cutTo p) t ≡ givenTo g l (linesFrom p t)
+unfolding givesAll givesThrough bookThrough lineThrough givesLast linesFrom givenTo
+gives-lines {g = g} r l p [] =
     ⊎-elim
     (λ (h : length p ≡ 0).
-    pick-true _ _ (cut-empty p ∙ eq-eqb _ 0 h) ∙ sym (ap (answersTo l) (pick-true _ _ (eq-eqb _ 0 h))))
+    pick-true _ _ (cut-empty p ∙ eq-eqb _ 0 h) ∙ sym (ap (givenTo g l) (pick-true _ _ (eq-eqb _ 0 h))))
     (λ (h : length p ≡ 0 → ⊥).
     pick-false _ _ (cut-empty p ∙ ne-eqb _ 0 h)
-    ∙ cut-answer l p
-    ∙ sym (append-nil (answerTo l p))
-    ∙ sym (ap (answersTo l) (pick-false _ _ (ne-eqb _ 0 h))))
+    ∙ cut-gives r l p
+    ∙ sym (append-nil (g l p))
+    ∙ sym (ap (givenTo g l) (pick-false _ _ (ne-eqb _ 0 h))))
     (eq-or-ne (length p) 0)
-says-lines l p (b ∷ t) =
-    says-next l (cutTo p) b t
+gives-lines {A} {g} r l p (b ∷ t) =
+    gives-next g l (cutTo p) b t
     ∙ ⊎-elim
     (λ (h : b ≡ 10).
-    ap (λ (x : List ℕ). x ++ saysAll (bookAt l (cutTo p) b) (lineAt (cutTo p) b) t) (says-ends l (cutTo p) b h ∙ cut-answer l p)
-    ∙ ap (λ (x : List ℕ). answerTo l p ++ x)
-    (ap₂ (λ (m q : List ℕ). saysAll m q t) (book-ends l (cutTo p) b h ∙ cut-book l p) (line-ends (cutTo p) b h) ∙ says-lines (bookAfter l p) [] t)
-    ∙ sym (ap (answersTo l) (pick-true _ _ (eq-eqb b 10 h))))
+    ap (λ (x : List A). x ++ givesAll g (bookAt l (cutTo p) b) (lineAt (cutTo p) b) t) (gives-ends g l (cutTo p) b h ∙ cut-gives r l p)
+    ∙ ap (λ (x : List A). g l p ++ x)
+    (ap₂ (λ (m q : List ℕ). givesAll g m q t) (book-ends l (cutTo p) b h ∙ cut-book l p) (line-ends (cutTo p) b h) ∙ gives-lines r (bookAfter l p) [] t)
+    ∙ sym (ap (givenTo g l) (pick-true _ _ (eq-eqb b 10 h))))
     (λ (h : b ≡ 10 → ⊥).
-    ap (λ (x : List ℕ). x ++ saysAll (bookAt l (cutTo p) b) (lineAt (cutTo p) b) t) (says-nothing l (cutTo p) b h)
-    ∙ ap₂ (λ (m q : List ℕ). saysAll m q t) (book-stays l (cutTo p) b h) (cut-grows p b h)
-    ∙ says-lines l (p ++ (b ∷ [])) t
-    ∙ sym (ap (answersTo l) (pick-false _ _ (ne-eqb b 10 h))))
+    ap (λ (x : List A). x ++ givesAll g (bookAt l (cutTo p) b) (lineAt (cutTo p) b) t) (gives-nothing g l (cutTo p) b h)
+    ∙ ap₂ (λ (m q : List ℕ). givesAll g m q t) (book-stays l (cutTo p) b h) (cut-grows p b h)
+    ∙ gives-lines r l (p ++ (b ∷ [])) t
+    ∙ sym (ap (givenTo g l) (pick-false _ _ (ne-eqb b 10 h))))
     (eq-or-ne b 10)
 
 pub book-lines : (l p t : List ℕ) → bookAll l (cutTo p) t ≡ bookAfterAll l (linesFrom p t)
@@ -135,15 +148,15 @@ some c h z = omega arith
 abbrev andEnd : List (List ℕ) → List (List ℕ)
 andEnd cs = cs ++ ([] ∷ [])
 
-says-joined : (l p : List ℕ) (cs : List (List ℕ)) → Pieces cs → saysPieces l p (andEnd cs) ≡ saysAll l p (joined cs)
-unfolding saysPieces saysPiece joined Pieces saysAll saysThrough bookThrough lineThrough
-says-joined l p [] h = append-nil (saysLast l p)
-says-joined l p (c ∷ cs) h =
+gives-joined : {A : Type 0} (g : Giving A) (l p : List ℕ) (cs : List (List ℕ)) → Pieces cs → givesPieces g l p (andEnd cs) ≡ givesAll g l p (joined cs)
+unfolding givesPieces givesPiece joined Pieces givesAll givesThrough bookThrough lineThrough
+gives-joined g l p [] h = append-nil (givesLast g l p)
+gives-joined {A} g l p (c ∷ cs) h =
     let one = piece-some l p c (some c (h .0)) in
-    ap₂ (λ (x y : List ℕ). x ++ y) (one .2) (ap₂ (λ (m q : List ℕ). saysPieces m q (andEnd cs)) (one .0) (one .1) ∙ says-joined (bookThrough l p c) (lineThrough p c) cs (h .1))
-    ∙ sym (append-assoc (saysThrough l p c) (saysThrough (bookThrough l p c) (lineThrough p c) (joined cs)) _)
-    ∙ ap₂ (λ (x y : List ℕ). x ++ y) (sym (says-append l p c (joined cs)))
-    (ap₂ saysLast (sym (book-append l p c (joined cs))) (sym (line-append p c (joined cs))))
+    ap₂ (λ (x y : List A). x ++ y) (piece-gives g l p c (some c (h .0))) (ap₂ (λ (m q : List ℕ). givesPieces g m q (andEnd cs)) (one .0) (one .1) ∙ gives-joined g (bookThrough l p c) (lineThrough p c) cs (h .1))
+    ∙ sym (append-assoc (givesThrough g l p c) (givesThrough g (bookThrough l p c) (lineThrough p c) (joined cs)) _)
+    ∙ ap₂ (λ (x y : List A). x ++ y) (sym (gives-append g l p c (joined cs)))
+    (ap₂ (givesLast g) (sym (book-append l p c (joined cs))) (sym (line-append p c (joined cs))))
 
 book-joined : (l p : List ℕ) (cs : List (List ℕ)) → Pieces cs → bookPieces l p (andEnd cs) ≡ bookAll l p (joined cs)
 unfolding bookPieces bookPiece joined Pieces bookAll bookThrough lineThrough
@@ -154,11 +167,18 @@ book-joined l p (c ∷ cs) h =
     ∙ book-joined (bookThrough l p c) (lineThrough p c) cs (h .1)
     ∙ ap₂ bookLast (sym (book-append l p c (joined cs))) (sym (line-append p c (joined cs)))
 
--- ---- a whole input, in whatever pieces, on a book of zeros: what is said to them and at the end is one answer for each line
+-- ---- a whole input, in whatever pieces: what is said to them and at the end is one answer for each line, and what gets done is what the lines get done
+
+gives-whole : {A : Type 0} {g : Giving A} → Read g → (l : List ℕ) (cs : List (List ℕ)) → Pieces cs → givesPieces g l [] (cs ++ ([] ∷ [])) ≡ givenTo g l (linesOf (joined cs))
+unfolding linesOf
+gives-whole {g = g} r l cs h = gives-joined g l [] cs h ∙ gives-lines r l [] (joined cs)
 
 pub desk-output : (cs : List (List ℕ)) → Pieces cs → saysPieces zeroBook [] (cs ++ ([] ∷ [])) ≡ output (joined cs)
-unfolding output linesOf
-desk-output cs h = says-joined zeroBook [] cs h ∙ says-lines zeroBook [] (joined cs)
+unfolding output
+desk-output cs h = gives-whole answers-read zeroBook cs h
+
+pub desk-done : (l : List ℕ) (cs : List (List ℕ)) → Pieces cs → donePieces l [] (cs ++ ([] ∷ [])) ≡ doneIn l (linesOf (joined cs))
+desk-done l cs h = gives-whole done-read l cs h
 
 pub desk-book : (cs : List (List ℕ)) → Pieces cs → bookPieces zeroBook [] (cs ++ ([] ∷ [])) ≡ bookAfterAll zeroBook (linesOf (joined cs))
 unfolding linesOf
@@ -176,17 +196,17 @@ unfolding bookPieces linePieces
 book-piece-more l p [] c = refl
 book-piece-more l p (x ∷ cs) c = book-piece-more (bookPiece l p x) (linePiece p x) cs c
 
--- the desk starts: a book of zeros, and no line begun
-pub served-start : Served zeroBook (replicate 122 0)
+-- the desk starts: no line is begun
+pub served-start : (l : List ℕ) → Served l l (replicate 122 0)
 unfolding bookPieces linePieces lineIn
-served-start = record { holder = record { room = refl; counted = omega arith }; pieces = []; book = refl; line = refl }
+served-start l = record { holder = record { room = refl; counted = omega arith }; pieces = []; book = refl; line = refl }
 
 -- and goes on
-pub served-more : {l m l′ m′ : List ℕ} (c : List ℕ) → Served l m → l′ ≡ bookPiece l (lineIn m) c → Holder m′ × (lineIn m′ ≡ linePiece (lineIn m) c) → Served l′ m′
-served-more c s h k =
+pub served-more : {l₀ l m l′ m′ : List ℕ} (c : List ℕ) → Served l₀ l m → l′ ≡ bookPiece l (lineIn m) c → Holder m′ × (lineIn m′ ≡ linePiece (lineIn m) c) → Served l₀ l′ m′
+served-more {l₀} c s h k =
     record {
       holder = k .0;
       pieces = s .pieces ++ (c ∷ []);
-      book = h ∙ ap₂ (λ (x y : List ℕ). bookPiece x y c) (s .book) (s .line) ∙ sym (book-piece-more zeroBook [] (s .pieces) c);
+      book = h ∙ ap₂ (λ (x y : List ℕ). bookPiece x y c) (s .book) (s .line) ∙ sym (book-piece-more l₀ [] (s .pieces) c);
       line = k .1 ∙ ap (λ (x : List ℕ). linePiece x c) (s .line) ∙ sym (line-piece-more [] (s .pieces) c);
     }

@@ -7,7 +7,8 @@ use lib.Dec.{eqb, ltb}
 use lib.ListN.{length, replicate, take, getD}
 use Rattle.loops.specs.Loops.{pick}
 use Rattle.book.specs.Layout.{bookWords}
-use Rattle.events.specs.Answering.{lineFeed, answerTo, bookAfter}
+use Rattle.upkeep.specs.Requests.{Request}
+use Rattle.events.specs.Answering.{lineFeed, Giving, answerTo, doneBy, recordTo, bookAfter}
 
 -- ---- what is promised of a whole input
 
@@ -19,10 +20,18 @@ linesFrom p (b ∷ t) = pick (eqb b lineFeed) (p ∷ linesFrom [] t) (linesFrom 
 unfoldable pub linesOf : List ℕ → List (List ℕ)
 linesOf t = linesFrom [] t
 
--- one answer for each line, each to the book that the line before left
-unfoldable pub answersTo : List ℕ → List (List ℕ) → List ℕ
-answersTo l [] = []
-answersTo l (s ∷ ss) = answerTo l s ++ answersTo (bookAfter l s) ss
+-- what each line gives, to the book that the line before left
+unfoldable pub givenTo : {A : Type 0} → Giving A → List ℕ → List (List ℕ) → List A
+givenTo g l [] = []
+givenTo g l (s ∷ ss) = g l s ++ givenTo g (bookAfter l s) ss
+
+-- one answer for each line
+abbrev pub answersTo : List ℕ → List (List ℕ) → List ℕ
+answersTo l ss = givenTo answerTo l ss
+
+-- the requests that lines got done, in order
+abbrev pub doneIn : List ℕ → List (List ℕ) → List Request
+doneIn l ss = givenTo doneBy l ss
 
 unfoldable pub bookAfterAll : List ℕ → List (List ℕ) → List ℕ
 bookAfterAll l [] = l
@@ -50,9 +59,9 @@ lineAt p b = pick (eqb b lineFeed) [] (pick (ltb (length p) keptBytes) (p ++ (b 
 unfoldable pub bookAt : List ℕ → List ℕ → ℕ → List ℕ
 bookAt l p b = pick (eqb b lineFeed) (bookAfter l p) l
 
--- and what is said to it
-unfoldable pub saysAt : List ℕ → List ℕ → ℕ → List ℕ
-saysAt l p b = pick (eqb b lineFeed) (answerTo l p) []
+-- and what it gives
+unfoldable pub givesAt : {A : Type 0} → Giving A → List ℕ → List ℕ → ℕ → List A
+givesAt g l p b = pick (eqb b lineFeed) (g l p) []
 
 -- the same for all the bytes of a text
 unfoldable pub lineThrough : List ℕ → List ℕ → List ℕ
@@ -63,13 +72,13 @@ unfoldable pub bookThrough : List ℕ → List ℕ → List ℕ → List ℕ
 bookThrough l p [] = l
 bookThrough l p (b ∷ t) = bookThrough (bookAt l p b) (lineAt p b) t
 
-unfoldable pub saysThrough : List ℕ → List ℕ → List ℕ → List ℕ
-saysThrough l p [] = []
-saysThrough l p (b ∷ t) = saysAt l p b ++ saysThrough (bookAt l p b) (lineAt p b) t
+unfoldable pub givesThrough : {A : Type 0} → Giving A → List ℕ → List ℕ → List ℕ → List A
+givesThrough g l p [] = []
+givesThrough g l p (b ∷ t) = givesAt g l p b ++ givesThrough g (bookAt l p b) (lineAt p b) t
 
 -- at the end of the input a last line counts if not empty
-unfoldable pub saysLast : List ℕ → List ℕ → List ℕ
-saysLast l p = pick (eqb (length p) 0) [] (answerTo l p)
+unfoldable pub givesLast : {A : Type 0} → Giving A → List ℕ → List ℕ → List A
+givesLast g l p = pick (eqb (length p) 0) [] (g l p)
 
 unfoldable pub bookLast : List ℕ → List ℕ → List ℕ
 bookLast l p = pick (eqb (length p) 0) l (bookAfter l p)
@@ -85,9 +94,9 @@ unfoldable pub bookPiece : List ℕ → List ℕ → List ℕ → List ℕ
 bookPiece l p [] = bookLast l p
 bookPiece l p (b ∷ t) = bookThrough l p (b ∷ t)
 
-unfoldable pub saysPiece : List ℕ → List ℕ → List ℕ → List ℕ
-saysPiece l p [] = saysLast l p
-saysPiece l p (b ∷ t) = saysThrough l p (b ∷ t)
+unfoldable pub givesPiece : {A : Type 0} → Giving A → List ℕ → List ℕ → List ℕ → List A
+givesPiece g l p [] = givesLast g l p
+givesPiece g l p (b ∷ t) = givesThrough g l p (b ∷ t)
 
 -- the same for pieces, one after the other
 unfoldable pub linePieces : List ℕ → List (List ℕ) → List ℕ
@@ -98,9 +107,28 @@ unfoldable pub bookPieces : List ℕ → List ℕ → List (List ℕ) → List �
 bookPieces l p [] = l
 bookPieces l p (c ∷ cs) = bookPieces (bookPiece l p c) (linePiece p c) cs
 
-unfoldable pub saysPieces : List ℕ → List ℕ → List (List ℕ) → List ℕ
-saysPieces l p [] = []
-saysPieces l p (c ∷ cs) = saysPiece l p c ++ saysPieces (bookPiece l p c) (linePiece p c) cs
+unfoldable pub givesPieces : {A : Type 0} → Giving A → List ℕ → List ℕ → List (List ℕ) → List A
+givesPieces g l p [] = []
+givesPieces g l p (c ∷ cs) = givesPiece g l p c ++ givesPieces g (bookPiece l p c) (linePiece p c) cs
+
+-- what is said, what gets done, and the records of it
+abbrev pub saysPiece : List ℕ → List ℕ → List ℕ → List ℕ
+saysPiece l p c = givesPiece answerTo l p c
+
+abbrev pub saysPieces : List ℕ → List ℕ → List (List ℕ) → List ℕ
+saysPieces l p cs = givesPieces answerTo l p cs
+
+abbrev pub donePiece : List ℕ → List ℕ → List ℕ → List Request
+donePiece l p c = givesPiece doneBy l p c
+
+abbrev pub donePieces : List ℕ → List ℕ → List (List ℕ) → List Request
+donePieces l p cs = givesPieces doneBy l p cs
+
+abbrev pub logPiece : List ℕ → List ℕ → List ℕ → List ℕ
+logPiece l p c = givesPiece recordTo l p c
+
+abbrev pub logPieces : List ℕ → List ℕ → List (List ℕ) → List ℕ
+logPieces l p cs = givesPieces recordTo l p cs
 
 -- a whole input in pieces: each has bytes, and they join to the text
 unfoldable pub joined : List (List ℕ) → List ℕ
@@ -125,9 +153,9 @@ pub record Holder (m : List ℕ) : Type 0 where
   pub room : length m ≡ lineRoom
   pub counted : getD m keptBytes 0 ≤ keptBytes
 
--- ---- the loop of the desk: the book is the one after some pieces, from zeros, and the buffer holds the line that they leave begun
-pub record Served (l m : List ℕ) : Type 0 where
+-- ---- the loop of the desk: the book is the one after some pieces, from the book l₀ on, and the buffer holds the line that they leave begun
+pub record Served (l₀ l m : List ℕ) : Type 0 where
   pub holder : Holder m
   pub pieces : List (List ℕ)
-  pub book : l ≡ bookPieces zeroBook [] pieces
+  pub book : l ≡ bookPieces l₀ [] pieces
   pub line : lineIn m ≡ linePieces [] pieces

@@ -2,20 +2,22 @@
 -- Assumes nothing.
 use native.Mathlib.Omega.{arith}
 use mathlib.Core.Path.{refl}
-use Rattle.events.specs.Answering.{readingBook, readingSays}
 use Rattle.paper.specs.Calls.{refused}
 use Rattle.paper.specs.Answers.{entriesIn, tellings}
+use Rattle.journal.specs.Journal.{journal}
+use Rattle.line.proofs.PrintLaws.{wrote-nothing}
+use Rattle.line.proofs.Theorems.{says-read}
 use Rattle.reply.specs.Printed.{printed}
 use Rattle.reply.proofs.RoomLaws.{no-list, printed-room}
-use Rattle.line.proofs.Theorems.{says-read}
-use Rattle.events.proofs.SayLaws.{told-bad, told-event, told-count, told-room, told-part, answered-reading}
+use Rattle.events.specs.Answering.{readingBook, readingSays, readingDone}
+use Rattle.events.proofs.SayLaws.{told-bad, told-event, told-count, told-room, told-part, kept-reading}
 use borrow.Author.Needs.{needs}
 use Rattle.events.proofs.answer.say_line.Statement.{statement}
 use Rattle.events.proofs.answer.say_line.Tie as tie
 
 answer-number-requires : tie.Need-answer-number-requires
 unfolding printed entriesIn tellings
-answer-number-requires c κs = printed-room (refused 13) (no-list _ (omega arith) refl) (c .before .before .before .before .before .before .before .before .pre)
+answer-number-requires c κs = printed-room (refused 13) (no-list _ (omega arith) refl) (c .before .before .before .before .before .before .before .before .before .pre .0)
 
 array-share-prefix-numbers : tie.Need-array-share-prefix-numbers
 array-share-prefix-numbers c =
@@ -27,22 +29,19 @@ array-share-prefix-numbers c =
 slice-aggregate-run-event : tie.Need-slice-aggregate-run-event
 slice-aggregate-run-event c = told-part _ (c .before .before .before .before .before .before .read-line .ensures)
 
-run-event-requires : tie.Need-run-event-requires
-run-event-requires c κs = c .before .before .before .before .before .before .before .before .before .before .before .pre
-
 returns : tie.Need-returns
-unfolding readingBook readingSays
+unfolding readingBook readingSays readingDone journal
 returns c =
-    answered-reading _ (told-bad _ (c .before .before .before .before .before .before .before .read-line .ensures) (c .before .before .before .before .enum-told .given .1))
-    (refl, c .before .before .answer-number .ensures)
+    kept-reading _ (told-bad _ (c .before .before .before .before .before .before .before .read-line .ensures) (c .before .before .before .before .enum-told .given .1))
+    (refl, (c .before .before .answer-number .ensures, wrote-nothing _ _))
 
 returns-2 : tie.Need-returns-2
-unfolding readingBook readingSays
+unfolding readingBook readingSays readingDone
 returns-2 c =
-    answered-reading _
+    kept-reading _
     (says-read _ _ _
-    (told-event _ (c .before .before .before .before .before .before .before .before .before .before .before .before .read-line .ensures) _
-    (c .before .before .before .before .before .before .before .before .before .said .given .1))) (c .before .before .before .before .run-event .ensures)
+    (told-event _ (c .before .before .before .before .before .before .before .before .before .before .before .before .before .before .before .read-line .ensures) _
+    (c .before .before .before .before .before .before .before .before .before .before .before .before .said .given .1))) (c .before .before .before .before .before .before .run-event .ensures)
 
 pub say-line-spec : {M : Type 1} → statement M
 say-line-spec =
@@ -54,9 +53,10 @@ say-line-spec =
     (λ c. search needs)
     array-share-prefix-numbers
     slice-aggregate-run-event
-    run-event-requires
+    (λ c κs. search needs)
     (λ c. search needs)
     returns
+    (λ c. search needs)
     (λ c. search needs)
     (λ c. search needs)
     returns-2)
