@@ -1,0 +1,3 @@
+pub mod NextLaws
+pub mod RecoveryLaws
+pub mod Pieces
