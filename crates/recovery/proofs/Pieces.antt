@@ -67,7 +67,7 @@ module _ (n m : ℕ) where
 pub recover-pieces :
     (f g : List ℕ) {l l₁ l₂ : List ℕ} {a b : answer.Recovered} → Below byteLimit f → Recovery l f a l₁ → Recovery l₁ (drop (a .bytes) f ++ g) b l₂ →
     Recovery l (f ++ g) (together a b) l₂
-unfolding onto
+unfolding onto endOf
 recover-pieces f g {l} {l₁} {l₂} {a} {b} small p q =
     let t = only-histories l f small in
     let s : Recovered = replay (start l) f in

@@ -8,8 +8,9 @@ use mathlib.Core.Bool.{true, false}
 use mathlib.Core.List.{List, [], _∷_, _++_}
 use lib.Dec.{eqb}
 use lib.ListN.{length, take, drop, length-append, length-drop, drop-of-length-le}
-use lib.Seq.{take-length, drop-drop}
+use lib.Seq.{length-take-le, take-length, take-add, drop-at, drop-drop}
 use Rattle.loops.proofs.BoolLaws.{decided, pick-true, pick-false}
+use Rattle.book.specs.Words.{part}
 use Rattle.upkeep.specs.Requests.{Request, numberAt, bookAfter}
 use Rattle.upkeep.proofs.NeverBadAnswer.{refused-stays}
 use Rattle.journal.specs.declared.recover.Fault.{Fault}
@@ -122,3 +123,17 @@ replay-reach s (b ∷ f) = omega (arith, replay-reach (step s b) f, step-reach (
 pub bytes-fit : {l f l′ : List ℕ} {a : answer.Recovered} → Recovery l f a l′ → a .bytes ≤ length f
 unfolding reach
 bytes-fit {l} {f} p = omega (arith, p .bytes, replay-reach (start l) f)
+
+-- ---- a buffer of which the first n bytes are recovered
+
+module _ {l l′ : List ℕ} {a : answer.Recovered} (o : List ℕ) (n : ℕ) (p : Recovery l (take n o) a l′) (h : n ≤ length o) where
+  pub counted-in : a .bytes ≤ n
+  counted-in = omega (arith, bytes-fit p, length-take-le n o h)
+
+  pub behind-counted : part o (a .bytes) (n - a .bytes) ≡ drop (a .bytes) (take n o)
+  unfolding part
+  behind-counted =
+      let m : ℕ = a .bytes in
+      let e : n ≡ m + (n - m) = omega (arith, counted-in) in
+      let both : take n o ≡ take m o ++ take (n - m) (drop m o) = ap (λ (i : ℕ). take i o) e ∙ take-add m (n - m) o in
+      sym (ap (drop m) both ∙ drop-at (take m o) (take (n - m) (drop m o)) m (length-take-le m o (omega (arith, counted-in))))
