@@ -19,9 +19,10 @@ use Rattle.journal.specs.Record.{requestIn, Piece, begun, strange, whole, piece
 use Rattle.journal.specs.Journal.{Recovered, within, stopped, start, takeIn, stepBy, step, replay, endBy, endOf}
 use Rattle.journal.proofs.RecordLaws.{size-some}
 use Rattle.journal.proofs.ByRecord.{by-none, by-strange, by-cut, by-done, by-refused}
+use Rattle.replayer.specs.declared.Next.{Next}
+use Rattle.replayer.specs.Turn.{Turn, no-kind, too-few, a-record}
 use Rattle.recovery.specs.declared.Recovered as answer
-use Rattle.recovery.specs.declared.next.Next.{Next}
-use Rattle.recovery.specs.Promises.{Recovery, Turn, no-kind, too-few, a-record}
+use Rattle.recovery.specs.Promises.{Recovery}
 
 -- ---- what is told of the state that it ends in
 

@@ -1,13 +1,12 @@
 // Recovery: the records of a journal are replayed one after the other. docs/JOURNAL.md tells what comes of them. `recover` asks nothing of its caller.
-pub mod next;
-
-use crate::next::MOST_NUMBERS;
-use crate::next::next_record;
+use replayer::MOST_NUMBERS;
+use replayer::next_record;
 ghost use mathlib.Core.Path.{_≡_};
 ghost use Prim.Native.Nat.{_+_, _≤_};
 ghost use lib.ListN.{length, take, drop};
 ghost use Rattle.book.specs.Words.{part, put};
-ghost use Rattle.recovery.specs.Promises.{mostNumbers, Recovery};
+ghost use Rattle.replayer.specs.Turn.{mostNumbers};
+ghost use Rattle.recovery.specs.Promises.{Recovery};
 
 // How many records were done, how many bytes they have, and how recovery ended: 0 behind a whole record, CUT inside one, BAD RECORD at a byte that is no kind, or the number with
 // which the next record's call is refused.

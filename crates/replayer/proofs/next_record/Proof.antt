@@ -1,4 +1,4 @@
--- `recovery::next::next_record` meets its contract: no kind, too few bytes, or a record whose call is made.
+-- `replayer::next_record` meets its contract: no kind, too few bytes, or a record whose call is made.
 -- Assumes nothing.
 use Prim.Native.Nat.{ℕ, _≤_, _<_}
 use native.Mathlib.Omega.{arith}
@@ -7,11 +7,11 @@ use denote.Ref.{now}
 use lib.ListN.{length, getD}
 use lib.Seq.{length-take-le}
 use Rattle.upkeep.specs.Requests.{numberAt, bookAfter}
-use Rattle.recovery.specs.Promises.{no-kind, too-few, a-record}
-use Rattle.recovery.proofs.NextLaws.{names-nothing, names-kind, size-is, head-small, read-count, read-own, asks}
+use Rattle.replayer.specs.Turn.{no-kind, too-few, a-record}
+use Rattle.replayer.proofs.TurnLaws.{names-nothing, names-kind, size-is, head-small, read-count, read-own, asks}
 use borrow.Author.Needs.{needs}
-use Rattle.recovery.proofs.next.next_record.Statement.{statement}
-use Rattle.recovery.proofs.next.next_record.Tie as tie
+use Rattle.replayer.proofs.next_record.Statement.{statement}
+use Rattle.replayer.proofs.next_record.Tie as tie
 
 returns : tie.Need-returns
 returns c =

@@ -1,11 +1,11 @@
--- `recovery::next::replayed` meets its contract: the call that is performed is the one that the numbers ask.
+-- `replayer::replayed` meets its contract: the call that is performed is the one that the numbers ask.
 -- Assumes nothing.
 use mathlib.Core.Path.{_∙_, ap}
 use Rattle.calls.specs.Performed.{asked}
-use Rattle.recovery.proofs.NextLaws.{replays}
+use Rattle.replayer.proofs.TurnLaws.{replays}
 use borrow.Author.Needs.{needs}
-use Rattle.recovery.proofs.next.replayed.Statement.{statement}
-use Rattle.recovery.proofs.next.replayed.Tie as tie
+use Rattle.replayer.proofs.replayed.Statement.{statement}
+use Rattle.replayer.proofs.replayed.Tie as tie
 
 returns : tie.Need-returns
 returns c =

@@ -1,4 +1,4 @@
-// The next record: whether it is all there, and its call.
+// The next record of a journal: whether it is all there, and its call, which is made. docs/JOURNAL.md tells what comes of it.
 use calls::perform::perform;
 use journal::record::Kind;
 use numbers::read_numbers;
@@ -15,7 +15,7 @@ ghost use lib.ListN.{length, getD};
 ghost use Rattle.upkeep.specs.Requests.{numberAt, bookAfter};
 ghost use Rattle.journal.specs.Record.{headSize, numbersIn, requestBy};
 ghost use Rattle.records.specs.Kinds.{ownOf};
-ghost use Rattle.recovery.specs.Promises.{mostNumbers, Turn};
+ghost use Rattle.replayer.specs.Turn.{mostNumbers, Turn};
 
 // How recovery ends at a byte that is no kind, and inside a record.
 pub const BAD_RECORD: u32 = 110;

@@ -1,11 +1,11 @@
--- `recovery::next::extent_of` meets its contract: by the form of the kind.
+-- `replayer::extent_of` meets its contract: by the form of the kind.
 -- Assumes nothing.
 use native.Mathlib.Omega.{arith}
 use denote.Ref.{now}
-use Rattle.recovery.proofs.NextLaws.{own-few, own-counted, extent-counted, extent-plain}
+use Rattle.replayer.proofs.TurnLaws.{own-few, own-counted, extent-counted, extent-plain}
 use borrow.Author.Needs.{needs}
-use Rattle.recovery.proofs.next.extent_of.Statement.{statement}
-use Rattle.recovery.proofs.next.extent_of.Tie as tie
+use Rattle.replayer.proofs.extent_of.Statement.{statement}
+use Rattle.replayer.proofs.extent_of.Tie as tie
 
 add-t7 : tie.Need-add-t7
 add-t7 c = omega (arith, own-few (c .before .before .before .before .args .kind) (c .before .before .shape-of .ensures), c .count-in .ensures .1)

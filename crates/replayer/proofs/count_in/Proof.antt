@@ -1,12 +1,12 @@
--- `recovery::next::count_in` meets its contract.
+-- `replayer::count_in` meets its contract.
 -- Assumes nothing.
 use native.Mathlib.Omega.{arith}
 use mathlib.Core.Path.{sym}
 use denote.Ref.{now}
 use lib.ListN.{List·getD-eq-default}
 use borrow.Author.Needs.{needs}
-use Rattle.recovery.proofs.next.count_in.Statement.{statement}
-use Rattle.recovery.proofs.next.count_in.Tie as tie
+use Rattle.replayer.proofs.count_in.Statement.{statement}
+use Rattle.replayer.proofs.count_in.Tie as tie
 
 returns : tie.Need-returns
 returns c = (sym (List·getD-eq-default (now (c .before .before .args .bytes)) 0 {n = 1} (omega (arith, c .if1 .taken))), omega arith)
