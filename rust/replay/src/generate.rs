@@ -7,6 +7,7 @@ use crate::books::{counts, lay, setup, wrong_setup};
 use crate::event::{Event, Step, BUFFER, MOST_BYTES, MOST_OUT};
 use crate::lines;
 use crate::random::Random;
+use crate::register::ANSWER_BYTES;
 use crate::values;
 use straight::calendar::LAST_DAY;
 use straight::layout::*;
@@ -102,7 +103,7 @@ impl Generator {
         }
         if step.room > 0 && self.random.below(32) == 0 {
             step.room = match step.event {
-                Event::Line(_) => self.random.choose(&[0, 1, 79, 80, 81, MOST_BYTES]),
+                Event::Line(_) => self.random.choose(&[0, 1, ANSWER_BYTES - 1, ANSWER_BYTES, ANSWER_BYTES + 1, MOST_BYTES]),
                 _ => self.random.below(MOST_OUT + 1),
             };
         }

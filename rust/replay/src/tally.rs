@@ -3,6 +3,7 @@
 use std::fmt;
 
 use crate::event::{Event, Outcome, Step};
+use crate::register::ANSWER_BYTES;
 use straight::calendar::LAST_DAY;
 use straight::layout::*;
 use straight::Counts;
@@ -148,7 +149,7 @@ impl Tally {
         let called = !matches!(step.event, Event::Lay(_) | Event::Put { .. } | Event::Greater { .. } | Event::Grams { .. });
         self.mark_if(called && step.words != WORDS, Mark::WrongLength);
         let least = match step.event {
-            Event::Line(_) => 80,
+            Event::Line(_) => ANSWER_BYTES,
             Event::Read { .. } => 8,
             Event::Write { .. } | Event::Grams { .. } => 2,
             _ => 0,
