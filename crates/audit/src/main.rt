@@ -6,11 +6,10 @@ use history::stream::feed;
 use libc::STDIN_FILENO;
 use libc::STDOUT_FILENO;
 use report::conclude::conclude;
+use report::say::ANSWER_ROOM;
 ghost use mathlib.Core.Path.{_≡_};
 ghost use lib.ListN.{take};
 ghost use Rattle.history.specs.Stream.{Fits, Seen, state, through};
-
-const ANSWER_ROOM: usize = 32;
 
 // What a piece of the input leaves: how many bytes it has, how many bytes of the line so far are kept, and how many lines have ended.
 struct Left {

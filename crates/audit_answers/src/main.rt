@@ -5,8 +5,7 @@ use history::stream::KEPT_BYTES;
 use history::stream::feed;
 use libc::STDOUT_FILENO;
 use report::conclude::conclude;
-
-const ANSWER_ROOM: usize = 32;
+use report::say::ANSWER_ROOM;
 
 // What is said of a text, fed as many times over.
 fn tell(text: &[u8], times: u32) {

@@ -1,5 +1,6 @@
 // One entry of a history beside another.
 use order::record::MOST_DEPOTS;
+use order::record::RECORD_WORDS;
 use order::record::is_above;
 ghost use mathlib.Core.Path.{_≡_};
 ghost use Prim.Native.Nat.{_+_, _≤_};
@@ -22,8 +23,6 @@ pub const READ: u32 = 1;
 const CREW: usize = 1;
 
 const RECORD: usize = 2;
-
-const RECORD_WORDS: usize = 9;
 
 pub const ORIGIN: usize = 6;
 

@@ -6,7 +6,7 @@ use line::digits::Number;
 use line::digits::read_number;
 ghost use mathlib.Core.Path.{_≡_};
 ghost use Prim.Native.Nat.{_≤_};
-ghost use lib.ListN.{length, drop};
+ghost use lib.ListN.{drop};
 ghost use Rattle.line.specs.Reading.{numbersIn};
 ghost use Rattle.history.specs.Entry.{mostNumbers, badWords, stored, kinded, readIn, entryIn};
 

@@ -4,7 +4,7 @@ use entries::beside::ENTRY_WORDS;
 use entries::beside::MOST_ENTRIES;
 ghost use mathlib.Core.Path.{_≡_};
 ghost use Prim.Native.Nat.{_+_, _≤_};
-ghost use lib.ListN.{length, take};
+ghost use lib.ListN.{length};
 ghost use lib.Seq.{sets};
 ghost use Rattle.history.specs.Stream.{Fits, state, ended, fed, through, finished};
 

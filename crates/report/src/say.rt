@@ -2,12 +2,13 @@
 use crate::report::Said;
 use auditor::finding::Finding;
 use line::printer::print_number;
-ghost use mathlib.Core.Path.{_≡_};
-ghost use mathlib.Core.List.{_++_};
-ghost use Prim.Native.Nat.{_+_, _≤_};
+ghost use Prim.Native.Nat.{_≤_};
 ghost use lib.ListN.{length};
 ghost use Rattle.line.specs.Printing.{Room, Wrote};
 ghost use Rattle.report.specs.Report.{answerRoom, numbered, ended, spokenFinding, spoken};
+
+// The room that every answer has.
+pub const ANSWER_ROOM: usize = 32;
 
 // The bytes of a text, from the place `at` on.
 fn print_text(out: &mut [u8], at: usize, text: &[u8]) -> usize
