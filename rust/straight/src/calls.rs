@@ -11,6 +11,9 @@ use crate::looks;
 use crate::order::above;
 use crate::Refusal;
 
+/// The most bearings that a list has.
+pub const LONGEST_LIST: usize = 8;
+
 /// The answer to a read: the value, if the bearing is written, the bits of its card's two lengths, 0 if it is not, and its
 /// vector; entries past the depots are 0.
 #[derive(Clone, Copy, Debug, PartialEq, Eq)]
@@ -56,16 +59,43 @@ pub fn read(book: &mut [u32], crew: u32, bearing: u32) -> Result<Reading, Refusa
     let offered = vector(book, n, crew_vector(crew));
     raise_and_show(book, n, depot, bearing % n.shelves, offered);
 
-    let record = stored(depot, bearing);
-    let vector = vector(book, n, record + VECTOR);
-    for x in 0..n.depots {
-        let entry = &mut book[crew_vector(crew) + x];
-        *entry = vector[x].max(*entry);
+    let reading = reading(book, n, depot, bearing);
+    merge(book, n, crew, reading.vector);
+    Ok(reading)
+}
+
+/// A crew reads 1 to 8 bearings at its home depot, all at one moment. What all shelves there know is put together with what
+/// the crew knows, and every shelf is raised and shown with it; then the bearings are read, in the order of the list.
+pub fn list(book: &mut [u32], crew: u32, bearings: &[u32]) -> Result<Vec<Reading>, Refusal> {
+    let n = counts(book)?;
+    let crew = below(crew, n.crews, Refusal::BadCrew)?;
+    if bearings.is_empty() || bearings.len() > LONGEST_LIST {
+        return Err(Refusal::BadList);
     }
-    if vector == [0; 4] {
-        return Ok(Reading { value: None, diameter: 0, width: 0, vector });
+    let mut listed = Vec::new();
+    for &bearing in bearings {
+        listed.push(below(bearing, n.bearings, Refusal::BadKey)?);
     }
-    Ok(Reading { value: Some(book[record + VALUE]), diameter: book[record + DIAMETER], width: book[record + WIDTH], vector })
+    fit(looks::list(book, n, crew, &listed))?;
+
+    let depot = book[home(crew)] as usize;
+    let mut offered = vector(book, n, crew_vector(crew));
+    for shelf in 0..n.shelves {
+        for x in (0..n.depots).filter(|&x| x != depot) {
+            offered[x] = offered[x].max(book[stable(depot, shelf) + x]);
+        }
+    }
+    for shelf in 0..n.shelves {
+        raise_and_show(book, n, depot, shelf, offered);
+    }
+
+    let mut readings = Vec::new();
+    for bearing in listed {
+        let reading = reading(book, n, depot, bearing);
+        merge(book, n, crew, reading.vector);
+        readings.push(reading);
+    }
+    Ok(readings)
 }
 
 /// A crew writes a bearing's value, a day of the calendar, and its card, as the bits of two lengths, at its home depot.
@@ -241,6 +271,24 @@ pub fn vector(book: &[u32], n: Counts, at: usize) -> [u32; 4] {
     let mut entries = [0; 4];
     entries[..n.depots].copy_from_slice(&book[at..at + n.depots]);
     entries
+}
+
+/// What a depot stores of a bearing, as the answer to a read.
+fn reading(book: &[u32], n: Counts, depot: usize, bearing: usize) -> Reading {
+    let record = stored(depot, bearing);
+    let vector = vector(book, n, record + VECTOR);
+    if vector == [0; 4] {
+        return Reading { value: None, diameter: 0, width: 0, vector };
+    }
+    Reading { value: Some(book[record + VALUE]), diameter: book[record + DIAMETER], width: book[record + WIDTH], vector }
+}
+
+/// A crew's vector becomes the entrywise maximum with what it read.
+fn merge(book: &mut [u32], n: Counts, crew: usize, read: [u32; 4]) {
+    for x in 0..n.depots {
+        let entry = &mut book[crew_vector(crew) + x];
+        *entry = read[x].max(*entry);
+    }
 }
 
 /// The lowest stamp that any shelf of a depot has seen from each depot; what it says of the depot itself means nothing.

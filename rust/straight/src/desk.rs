@@ -1,7 +1,9 @@
 //! The desk: a line in, a line out.
 
-use crate::calls::{self, Reading};
+use crate::calls::Reading;
+use crate::journal::record;
 use crate::layout::{Counts, WORDS};
+use crate::request::{call, Answer, Request};
 use crate::Refusal;
 
 /// The bytes a line may have, its line feed not counted.
@@ -28,37 +30,59 @@ pub(crate) fn lines(input: &[u8]) -> Vec<&[u8]> {
 
 /// The answer to one line, given without its line feed; the answer has one.
 pub fn line(book: &mut [u32], text: &[u8]) -> String {
-    match call(book, text) {
-        Ok(more) => format!("0{}\n", more),
-        Err(refusal) => format!("{}\n", refusal as u32),
-    }
+    let outcome = asked(text).and_then(|request| call(book, &request));
+    told(book, outcome)
 }
 
-/// Does what a line asks. What comes back is the text after the answer's 0.
-fn call(book: &mut [u32], text: &[u8]) -> Result<String, Refusal> {
+/// The answer to one line, of a desk with a journal: the record of a line that is done is appended to it. Neither a refused
+/// line nor one in no line's form has a record.
+pub fn desk_with_journal(book: &mut [u32], journal: &mut Vec<u8>, text: &[u8]) -> String {
+    let outcome = asked(text).and_then(|request| {
+        let answer = call(book, &request)?;
+        journal.extend(record(&request));
+        Ok(answer)
+    });
+    told(book, outcome)
+}
+
+/// What a line asks for.
+fn asked(text: &[u8]) -> Result<Request, Refusal> {
     let (event, numbers) = parts(text).ok_or(Refusal::BadLine)?;
-    let nothing = String::new();
     match (event, &numbers[..]) {
-        (b'S', [depots, shelves, bearings, crews, homes @ ..]) if homes.len() <= 16 => {
-            calls::setup(book, *depots, *shelves, *bearings, *crews, homes).map(|()| nothing)
+        (b'S', &[depots, shelves, bearings, crews, ref homes @ ..]) if homes.len() <= 16 => {
+            Ok(Request::Setup { depots, shelves, bearings, crews, homes: homes.to_vec() })
         }
-        (b'R', [crew, bearing]) => calls::read(book, *crew, *bearing).map(|reading| told(&reading, Counts::of(book).depots)),
-        (b'W', [crew, bearing, value, diameter, width]) => calls::write(book, *crew, *bearing, *value, *diameter, *width)
-            .map(|written| format!(" {} {}", written.stamp, if written.current { "C" } else { "S" })),
-        (b'K', [depot, shelf]) => calls::tick(book, *depot, *shelf).map(|()| nothing),
-        (b'T', [depot, shelf, from]) => calls::take(book, *depot, *shelf, *from).map(|()| nothing),
-        (b'F', [depot, shelf]) => calls::refresh(book, *depot, *shelf).map(|()| nothing),
+        (b'R', &[crew, bearing]) => Ok(Request::Read { crew, bearing }),
+        (b'L', &[crew, ref bearings @ ..]) => Ok(Request::List { crew, bearings: bearings.to_vec() }),
+        (b'W', &[crew, bearing, value, diameter, width]) => Ok(Request::Write { crew, bearing, value, diameter, width }),
+        (b'K', &[depot, shelf]) => Ok(Request::Tick { depot, shelf }),
+        (b'T', &[depot, shelf, from]) => Ok(Request::Take { depot, shelf, from }),
+        (b'F', &[depot, shelf]) => Ok(Request::Refresh { depot, shelf }),
         _ => Err(Refusal::BadLine),
     }
 }
 
+/// The line that tells what a call answered or why it was refused.
+fn told(book: &[u32], outcome: Result<Answer, Refusal>) -> String {
+    match outcome {
+        Ok(Answer::Done) => "0\n".to_string(),
+        Ok(Answer::Read(reading)) => format!("0{}\n", read(book, &reading)),
+        Ok(Answer::List(readings)) => {
+            let each: String = readings.iter().map(|reading| read(book, reading)).collect();
+            format!("0{}\n", each)
+        }
+        Ok(Answer::Written(written)) => format!("0 {} {}\n", written.stamp, if written.current { "C" } else { "S" }),
+        Err(refusal) => format!("{}\n", refusal as u32),
+    }
+}
+
 /// A read's answer: the value and the card, or - if the bearing is unwritten; then the entries, one for each depot.
-fn told(reading: &Reading, depots: usize) -> String {
+fn read(book: &[u32], reading: &Reading) -> String {
     let mut text = match reading.value {
         Some(value) => format!(" {} {} {}", value, reading.diameter, reading.width),
         None => " -".to_string(),
     };
-    for entry in &reading.vector[..depots] {
+    for entry in &reading.vector[..Counts::of(book).depots] {
         text += &format!(" {}", entry);
     }
     text

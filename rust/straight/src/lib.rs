@@ -23,23 +23,32 @@ mod card;
 mod desk;
 mod fit;
 mod frame;
+mod image;
+mod journal;
 pub mod layout;
 mod looks;
 mod order;
+mod request;
 
 pub use audit::{audit, audit_lines, Verdict, ENTRY, MOST_ENTRIES, READ_ENTRY, WRITE_ENTRY};
-pub use calls::{below, move_crew, read, refresh, setup, take, tick, vector, who_has, write, Reading, Written};
+pub use calls::{
+    below, list, move_crew, read, refresh, setup, take, tick, vector, who_has, write, Reading, Written, LONGEST_LIST,
+};
 pub use card::{grams, is_card};
-pub use desk::{desk, line, LONGEST_LINE};
+pub use desk::{desk, desk_with_journal, line, LONGEST_LINE};
 pub use fit::{counts_and_homes, is_fit};
 pub use frame::{frame_read, frame_write, BAD_COUNT, BAD_FRAME, GAP, LONGEST_FRAME, MOST_MESSAGES, OLD};
+pub use image::{load_image, save_image, BAD_IMAGE, IMAGE};
+pub use journal::{call_with_record, record, record_length, recover, Recovered, BAD_RECORD, CUT, WHOLE};
 pub use layout::{Counts, WORDS};
 pub use order::{above, greater};
+pub use request::{call, Answer, Request};
 
 /// NO ROOM, a number outside the specification's table. In C and in the library an answer with words in it is put into a
 /// buffer. If that is shorter than the answer's room, the call is refused by this number, before every other check, and changes
-/// no word of book or buffer. The calls here hand their answers back and have no buffers, so none of them says it; but
-/// [`frame_write`] and [`frame_read`] do, after every other check.
+/// no word of book or buffer. The calls here hand their answers back and have no buffers, so none of them says it. But it is
+/// said where bytes or messages are put into a buffer: by [`frame_write`], [`frame_read`] and [`save_image`] after every other
+/// check, by [`call_with_record`] before; and by [`load_image`] of a book of the wrong length.
 pub const NO_ROOM: u32 = 100;
 
 /// The refusals of the specification's table, with their numbers.
@@ -59,5 +68,6 @@ pub enum Refusal {
     NotHereYet = 12,
     BadLine = 13,
     BadCard = 14,
+    BadList = 15,
     BadDate = 16,
 }

@@ -33,6 +33,14 @@ pub fn read(book: &[u32], n: Counts, crew: usize, bearing: usize) -> bool {
         && raise_and_show(book, n, depot, bearing % n.shelves)
 }
 
+/// The crew's vector; the stored versions of the listed bearings at its home; what raise and show touches at every shelf there.
+pub fn list(book: &[u32], n: Counts, crew: usize, bearings: &[usize]) -> bool {
+    let depot = book[home(crew)] as usize;
+    crew_vector_is_fit(book, n, crew)
+        && bearings.iter().all(|&bearing| stored_is_fit(book, n, depot, bearing))
+        && (0..n.shelves).all(|shelf| raise_and_show(book, n, depot, shelf))
+}
+
 /// As a read, and as a tick of the bearing's shelf at the crew's home.
 pub fn write(book: &[u32], n: Counts, crew: usize, bearing: usize) -> bool {
     let depot = book[home(crew)] as usize;
