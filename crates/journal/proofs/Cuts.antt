@@ -1,8 +1,8 @@
 -- A cut journal is its whole records and the bytes behind them; and no more records than that are whole before the cut.
 -- Assumes nothing.
-use Prim.Native.Nat.{ℕ, zero, suc, _+_, _-_, _≤_, _<_}
+use Prim.Native.Nat.{ℕ, zero, suc, _+_, _-_, _≤_}
 use native.Mathlib.Omega.{arith}
-use mathlib.Core.Path.{_≡_, refl, sym, _∙_, ap}
+use mathlib.Core.Path.{_≡_, sym, _∙_, ap}
 use mathlib.Core.Logic.{⊎-elim}
 use mathlib.Core.Bool.{true, false}
 use mathlib.Core.List.{List, [], _∷_, _++_, append-assoc}
@@ -10,7 +10,6 @@ use lib.Dec.{leb}
 use lib.ListN.{length, take, length-append}
 use lib.Seq.{take-append-le, take-append-add, take-nil}
 use borrow.Author.Tests.{leb-true, leb-false}
-use Rattle.loops.specs.Loops.{pick}
 use Rattle.loops.proofs.BoolLaws.{decided, pick-true, pick-false}
 use Rattle.upkeep.specs.Requests.{Request}
 use Rattle.journal.specs.Record.{recordBytes}
@@ -46,4 +45,15 @@ cut-most m (suc j) (r ∷ rs) l h =
     let k : j ≤ wholeIn (m - length (recordBytes r)) rs = cut-most (m - length (recordBytes r)) j rs (omega arith) (omega arith) in
     rw (pick-true (suc (wholeIn (m - length (recordBytes r)) rs)) 0 t) (omega arith))
     (λ (t : leb (length (recordBytes r)) m ≡ false). absurd (omega (arith, leb-false (length (recordBytes r)) m t)))
+    (decided (leb (length (recordBytes r)) m))
+
+-- and not more than there are
+pub cut-within : (m : ℕ) (rs : List Request) → wholeIn m rs ≤ length rs
+unfolding wholeIn
+cut-within m [] = omega arith
+cut-within m (r ∷ rs) =
+    let k : wholeIn (m - length (recordBytes r)) rs ≤ length rs = cut-within (m - length (recordBytes r)) rs in
+    ⊎-elim
+    (λ (t : leb (length (recordBytes r)) m ≡ true). rw (pick-true (suc (wholeIn (m - length (recordBytes r)) rs)) 0 t) (omega arith))
+    (λ (t : leb (length (recordBytes r)) m ≡ false). rw (pick-false (suc (wholeIn (m - length (recordBytes r)) rs)) 0 t) (omega arith))
     (decided (leb (length (recordBytes r)) m))

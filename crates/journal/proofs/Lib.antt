@@ -1,7 +1,11 @@
+pub mod ByKind
 pub mod RecordLaws
-pub mod Theorems
-pub mod OnlyRecords
-pub mod Histories
-pub mod OneJournal
+pub mod ByRecord
 pub mod Cuts
+pub mod Theorems
+pub mod Histories
+pub mod Pieces
+pub mod OneJournal
+pub mod ZeroStart
+pub mod Kept
 pub mod Worked

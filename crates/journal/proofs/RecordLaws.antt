@@ -1,94 +1,71 @@
--- A record is read off its bytes: a part of it is begun, all of it is the request; and bytes that are a whole record are the record of what they ask.
+-- A record is read off bytes that begin with it: its kind, how many bytes it has, its request. And bytes that name a kind and are as many as it has begin with the
+-- record of what they ask. By the form of a kind.
 -- Assumes nothing.
-use Prim.Native.Nat.{ℕ, zero, suc, _+_, _*_, _≤_, _<_}
+use Prim.Native.Nat.{ℕ, suc, _+_, _*_, _≤_, _<_}
 use native.Mathlib.Omega.{arith}
+use native.Mathlib.Nat.{le-refl}
 use mathlib.Core.Path.{_≡_, refl, sym, _∙_, ap, ap₂, subst}
+use mathlib.Core.Logic.{⊎-elim}
 use mathlib.Core.Option.{Option, none, some}
 use mathlib.Core.List.{List, [], _∷_, _++_}
-use lib.Dec.{eqb, ltb}
-use lib.ListN.{length, getD, drop, length-append}
-use lib.Seq.{length-take-le}
+use lib.ListN.{length, getD, take, length-append, length-drop}
+use lib.Seq.{getD-take, take-add}
 use borrow.Author.Tests.{lt-ltb, le-ltb}
-use Rattle.loops.specs.Loops.{pick}
-use Rattle.loops.proofs.BoolLaws.{pick-true, pick-false}
-use Rattle.paper.specs.Calls.{read, write, tick, take, refresh, move}
-use Rattle.upkeep.specs.Requests.{Request, setup, call}
-use Rattle.wire.specs.Wire.{wordLimit, wordBytes, Below}
-use Rattle.wire.proofs.WireLaws.{Stands, stands-all, stands-right}
+use Rattle.loops.proofs.BoolLaws.{le-or-lt, pick-true, pick-false}
+use Rattle.book.specs.Words.{part}
+use Rattle.upkeep.specs.Requests.{Request, numberAt}
+use Rattle.wire.specs.Wire.{byteLimit, wordLimit, Below}
+use Rattle.wire.proofs.WireLaws.{Stands, stands-all, stands-left, stands-right}
 use Rattle.numbers.specs.Numbers.{bytesOf, wordsAt}
-use Rattle.numbers.proofs.NumberLaws.{length-bytes, words-stand}
+use Rattle.numbers.proofs.NumberLaws.{length-bytes, length-words, words-stand, words-take, words-small, bytes-read}
 use Rattle.journal.specs.declared.record.Kind.{Kind}
-use Rattle.journal.specs.declared.record.Kind.the-variants.{Setup, Read, Write, Tick, Take, Refresh, Move}
-use Rattle.journal.specs.Record.{byteOf, kindOf, headSize, numbersIn, kindIn, numbersOf, headOf, recordBytes, requestBy}
-use Rattle.journal.specs.Record.{Piece, begun, strange, whole, size, pieceBy, piece}
+use Rattle.journal.specs.Record.{byteOf, kindOf, Form, plain, counted, formOf, headBy, headSize, numbersBy, numbersIn, size}
+use Rattle.journal.specs.Record.{kindIn, numbersOf, countBy, headOf, recordBytes, requestBy, requestIn, begun, strange, whole, pieceBy, piece}
+use Rattle.journal.proofs.ByKind.{kind-back, kind-byte, request-back, numbers-long, numbers-few, kind-kept, numbers-kept}
 
--- ---- from a request to its record
+-- ---- how many bytes
 
-kind-back : (k : Kind) → kindOf (byteOf k) ≡ some k
-unfolding kindOf byteOf pick
-kind-back Setup = refl
-kind-back Read = refl
-kind-back Write = refl
-kind-back Tick = refl
-kind-back Take = refl
-kind-back Refresh = refl
-kind-back Move = refl
+head-some : (f : Form) → 0 < headBy f
+unfolding headBy
+head-some (plain n) = omega arith
+head-some (counted n) = omega arith
 
-request-back : (r : Request) → requestBy (kindIn r) (numbersOf r) ≡ r
-unfolding requestBy kindIn numbersOf
-request-back (setup n homes) = refl
-request-back (call (read c k)) = refl
-request-back (call (write c k payload)) = refl
-request-back (call (tick d s)) = refl
-request-back (call (take d s from)) = refl
-request-back (call (refresh d s)) = refl
-request-back (call (move c d)) = refl
+pub size-some : (k : Kind) (p : List ℕ) → 0 < size k p
+unfolding size headSize
+size-some k p = omega (arith, head-some (formOf k))
 
--- its first byte is its kind's, whatever part of it is there
-first-byte : (r : Request) (j : ℕ) → getD (lib.ListN.take (suc j) (recordBytes r)) 0 0 ≡ byteOf (kindIn r)
-unfolding recordBytes headOf kindIn
-first-byte (setup n homes) j = refl
-first-byte (call c) j = refl
-
-head-long : (r : Request) → length (headOf r) ≡ headSize (kindIn r)
-unfolding headOf headSize kindIn
-head-long (setup n homes) = refl
-head-long (call (read c k)) = refl
-head-long (call (write c k payload)) = refl
-head-long (call (tick d s)) = refl
-head-long (call (take d s from)) = refl
-head-long (call (refresh d s)) = refl
-head-long (call (move c d)) = refl
-
-numbers-long : (r : Request) → numbersIn (kindIn r) (recordBytes r) ≡ length (numbersOf r)
-unfolding numbersIn kindIn recordBytes headOf numbersOf
-numbers-long (setup n homes) = omega arith
-numbers-long (call (read c k)) = refl
-numbers-long (call (write c k payload)) = refl
-numbers-long (call (tick d s)) = refl
-numbers-long (call (take d s from)) = refl
-numbers-long (call (refresh d s)) = refl
-numbers-long (call (move c d)) = refl
-
-record-long : (r : Request) → length (recordBytes r) ≡ headSize (kindIn r) + 4 * length (numbersOf r)
-unfolding recordBytes
-record-long r = length-append (headOf r) (bytesOf (numbersOf r)) ∙ ap₂ (λ (x y : ℕ). x + y) (head-long r) (length-bytes (numbersOf r))
-
--- the bytes that are there say how many all are, or more
-pub size-all : (r : Request) → size (kindIn r) (recordBytes r) ≡ length (recordBytes r)
+head-in-size : (k : Kind) (p : List ℕ) → headSize k ≤ size k p
 unfolding size
-size-all r = ap (λ (n : ℕ). headSize (kindIn r) + 4 * n) (numbers-long r) ∙ sym (record-long r)
+head-in-size k p = omega arith
 
-size-part : (r : Request) (j : ℕ) → suc j < length (recordBytes r) → suc j < size (kindIn r) (lib.ListN.take (suc j) (recordBytes r))
-unfolding size kindIn recordBytes headOf numbersOf headSize numbersIn bytesOf wordBytes
-size-part (setup n homes) zero h = omega arith
-size-part (setup n homes) (suc j) h = omega (arith, length-bytes homes)
-size-part (call (read c k)) j h = h
-size-part (call (write c k payload)) j h = h
-size-part (call (tick d s)) j h = h
-size-part (call (take d s from)) j h = h
-size-part (call (refresh d s)) j h = h
-size-part (call (move c d)) j h = h
+-- the bytes before the numbers say it
+numbers-take : (f : Form) (j : ℕ) (p : List ℕ) → headBy f ≤ j → numbersBy f (take j p) ≡ numbersBy f p
+unfolding headBy numbersBy
+numbers-take (plain n) j p h = refl
+numbers-take (counted n) j p h = ap (λ (x : ℕ). n + x) (getD-take j p 1 0 (omega arith))
+
+size-take : (k : Kind) (j : ℕ) (p : List ℕ) → headSize k ≤ j → size k (take j p) ≡ size k p
+unfolding size headSize numbersIn
+size-take k j p h = ap (λ (x : ℕ). headBy (formOf k) + 4 * x) (numbers-take (formOf k) j p h)
+
+pub size-all : (k : Kind) (p : List ℕ) → size k (take (size k p) p) ≡ size k p
+size-all k p = size-take k (size k p) p (head-in-size k p)
+
+-- of fewer bytes than there are it is still more
+pub size-part : (k : Kind) (j : ℕ) (p : List ℕ) → j < size k p → j < size k (take j p)
+size-part k j p h =
+    ⊎-elim
+    (λ (l : headSize k ≤ j). omega (arith, size-take k j p l))
+    (λ (l : j < headSize k). omega (arith, head-in-size k (take j p)))
+    (le-or-lt (headSize k) j)
+
+-- what is asked stands in them alone
+pub asked-take : (k : Kind) (p : List ℕ) → requestIn k (take (size k p) p) ≡ requestIn k p
+unfolding requestIn headSize numbersIn size
+asked-take k p =
+    ap (requestBy k)
+    (ap (wordsAt (take (size k p) p) (headBy (formOf k))) (numbers-take (formOf k) (size k p) p (head-in-size k p))
+    ∙ words-take p (headBy (formOf k)) (numbersBy (formOf k) p) (size k p) (le-refl _))
 
 -- ---- what bytes are
 
@@ -96,7 +73,7 @@ pub is-begun : (k : Kind) (p : List ℕ) → kindOf (getD p 0 0) ≡ some k → 
 unfolding piece pieceBy
 is-begun k p e h = ap (λ (o : Option Kind). pieceBy o p) e ∙ pick-true _ _ (lt-ltb _ _ h)
 
-pub is-whole : (k : Kind) (p : List ℕ) → kindOf (getD p 0 0) ≡ some k → size k p ≤ length p → piece p ≡ whole (requestBy k (wordsAt p (headSize k) (numbersIn k p)))
+pub is-whole : (k : Kind) (p : List ℕ) → kindOf (getD p 0 0) ≡ some k → size k p ≤ length p → piece p ≡ whole (requestIn k p)
 unfolding piece pieceBy
 is-whole k p e h = ap (λ (o : Option Kind). pieceBy o p) e ∙ pick-false _ _ (le-ltb _ _ h)
 
@@ -104,35 +81,92 @@ pub is-strange : (b : ℕ) → kindOf b ≡ none → piece (b ∷ []) ≡ strang
 unfolding piece pieceBy
 is-strange b e = ap (λ (o : Option Kind). pieceBy o (b ∷ [])) e
 
--- ---- a record, read
+-- ---- a record, and bytes behind it
 
-pub record-some : (r : Request) → 0 < length (recordBytes r)
-unfolding recordBytes headOf
-record-some (setup n homes) = omega arith
-record-some (call c) = omega arith
+count-long : (f : Form) (ns : List ℕ) → suc (length (countBy f ns)) ≡ headBy f
+unfolding countBy headBy
+count-long (plain n) ns = refl
+count-long (counted n) ns = refl
 
-pub record-begun : (r : Request) (j : ℕ) → suc j < length (recordBytes r) → piece (lib.ListN.take (suc j) (recordBytes r)) ≡ begun
-record-begun r j h =
-    is-begun (kindIn r) _ (ap kindOf (first-byte r j) ∙ kind-back (kindIn r))
-    (rw (length-take-le (suc j) (recordBytes r) (omega arith)) (size-part r j h))
+head-long : (r : Request) → length (headOf r) ≡ headSize (kindIn r)
+unfolding headOf headSize
+head-long r = count-long (formOf (kindIn r)) (numbersOf r)
 
-first-of : (r : Request) → getD (recordBytes r) 0 0 ≡ byteOf (kindIn r)
-unfolding recordBytes headOf kindIn
-first-of (setup n homes) = refl
-first-of (call c) = refl
-
-add-none : (n : ℕ) → 0 + n ≡ n
-add-none n = omega arith
-
-numbers-stand : (r : Request) → Stands (recordBytes r) (headSize (kindIn r)) (bytesOf (numbersOf r))
+pub record-long : (r : Request) → length (recordBytes r) ≡ headSize (kindIn r) + 4 * length (numbersOf r)
 unfolding recordBytes
-numbers-stand r =
-    subst (λ (n : ℕ). Stands (recordBytes r) n (bytesOf (numbersOf r))) (add-none (length (headOf r)) ∙ head-long r)
-    (stands-right (recordBytes r) 0 (headOf r) (bytesOf (numbersOf r)) (stands-all (recordBytes r)))
+record-long r = length-append (headOf r) (bytesOf (numbersOf r)) ∙ ap₂ (λ (x y : ℕ). x + y) (head-long r) (length-bytes (numbersOf r))
 
-pub record-whole : (r : Request) → Below wordLimit (numbersOf r) → piece (recordBytes r) ≡ whole r
-record-whole r b =
-    is-whole (kindIn r) (recordBytes r) (ap kindOf (first-of r) ∙ kind-back (kindIn r)) (omega (arith, size-all r))
-    ∙ ap (λ (ns : List ℕ). whole (requestBy (kindIn r) ns))
-    (ap (wordsAt (recordBytes r) (headSize (kindIn r))) (numbers-long r) ∙ words-stand (recordBytes r) (headSize (kindIn r)) (numbersOf r) b (numbers-stand r))
-    ∙ ap whole (request-back r)
+-- a record of a request that is done has at most 82 bytes
+head-few : (f : Form) → headBy f ≤ 2
+unfolding headBy
+head-few (plain n) = omega arith
+head-few (counted n) = omega arith
+
+pub record-few : (l : List ℕ) (r : Request) → numberAt l r ≡ 0 → length (recordBytes r) ≤ 82
+unfolding headSize
+record-few l r z = omega (arith, record-long r, numbers-few l r z, head-few (formOf (kindIn r)))
+
+module _ (r : Request) (g : List ℕ) where
+  pub record-kind : kindOf (getD (recordBytes r ++ g) 0 0) ≡ some (kindIn r)
+  unfolding recordBytes headOf
+  record-kind = kind-back (kindIn r)
+
+  record-numbers : numbersIn (kindIn r) (recordBytes r ++ g) ≡ length (numbersOf r)
+  unfolding numbersIn recordBytes headOf
+  record-numbers = numbers-long r (byteOf (kindIn r)) (bytesOf (numbersOf r)) g
+
+  pub record-size : size (kindIn r) (recordBytes r ++ g) ≡ length (recordBytes r)
+  unfolding size
+  record-size = ap (λ (n : ℕ). headSize (kindIn r) + 4 * n) record-numbers ∙ sym (record-long r)
+
+  numbers-stand : Stands (recordBytes r ++ g) (headSize (kindIn r)) (bytesOf (numbersOf r))
+  unfolding recordBytes
+  numbers-stand =
+      subst (λ (n : ℕ). Stands (recordBytes r ++ g) n (bytesOf (numbersOf r))) (add-none (length (headOf r)) ∙ head-long r)
+      (stands-right (recordBytes r ++ g) 0 (headOf r) (bytesOf (numbersOf r))
+      (stands-left (recordBytes r ++ g) 0 (recordBytes r) g (stands-all (recordBytes r ++ g))))
+    where
+      add-none : (n : ℕ) → 0 + n ≡ n
+      add-none n = omega arith
+
+  pub record-asks : Below wordLimit (numbersOf r) → requestIn (kindIn r) (recordBytes r ++ g) ≡ r
+  unfolding requestIn
+  record-asks b =
+      ap (requestBy (kindIn r))
+      (ap (wordsAt (recordBytes r ++ g) (headSize (kindIn r))) record-numbers
+      ∙ words-stand (recordBytes r ++ g) (headSize (kindIn r)) (numbersOf r) b numbers-stand)
+      ∙ request-back r
+
+-- ---- bytes that begin with a whole record
+
+take-one : (p : List ℕ) → 1 ≤ length p → getD p 0 0 ∷ [] ≡ take 1 p
+take-one [] h = absurd (omega arith)
+take-one (a ∷ p) h = refl
+
+take-two : (p : List ℕ) → 2 ≤ length p → getD p 0 0 ∷ getD p 1 0 ∷ [] ≡ take 2 p
+take-two [] h = absurd (omega arith)
+take-two (a ∷ []) h = absurd (omega arith)
+take-two (a ∷ b ∷ p) h = refl
+
+count-kept : (f : Form) (p : List ℕ) → headBy f ≤ length p → getD p 0 0 ∷ countBy f (wordsAt p (headBy f) (numbersBy f p)) ≡ take (headBy f) p
+unfolding headBy countBy numbersBy
+count-kept (plain n) p h = take-one p h
+count-kept (counted n) p h =
+    ap (λ (x : ℕ). getD p 0 0 ∷ x ∷ []) (length-drop n (wordsAt p 2 (n + getD p 1 0)) ∙ omega (arith, length-words p 2 (n + getD p 1 0))) ∙ take-two p h
+
+module _ (k : Kind) (p : List ℕ) (e : kindOf (getD p 0 0) ≡ some k) (h : size k p ≤ length p) where
+  head-kept : headOf (requestIn k p) ≡ take (headSize k) p
+  unfolding headOf headSize numbersIn requestIn
+  head-kept =
+      ap (λ (j : Kind). byteOf j ∷ countBy (formOf j) (numbersOf (requestIn k p))) (kind-kept k _)
+      ∙ ap₂ (λ (b : ℕ) (ns : List ℕ). b ∷ countBy (formOf k) ns) (sym (kind-byte _ k e)) (numbers-kept k p)
+      ∙ count-kept (formOf k) p (omega (arith, head-in-size k p))
+
+  pub whole-record : Below byteLimit p → recordBytes (requestIn k p) ≡ take (size k p) p
+  unfolding recordBytes size part
+  whole-record b =
+      ap₂ (λ (x y : List ℕ). x ++ y) head-kept (ap bytesOf (numbers-kept k p) ∙ sym (bytes-read p (headSize k) (numbersIn k p) (omega arith) b))
+      ∙ sym (take-add (headSize k) (4 * numbersIn k p) p)
+
+pub whole-words : (k : Kind) (p : List ℕ) → Below byteLimit p → Below wordLimit (numbersOf (requestIn k p))
+whole-words k p b = subst (Below wordLimit) (sym (numbers-kept k p)) (words-small p (headSize k) (numbersIn k p) b)

@@ -5,8 +5,9 @@ use mathlib.Core.Path.{_≡_}
 use mathlib.Core.Option.{Option, some}
 use mathlib.Core.List.{List, [], _∷_, _++_}
 use lib.Dec.{eqb, leb}
-use lib.ListN.{length, take}
+use lib.ListN.{length, take, replicate}
 use Rattle.loops.specs.Loops.{pick}
+use Rattle.book.specs.Layout.{bookWords}
 use Rattle.upkeep.specs.Requests.{Request, numberAt, bookAfter, last}
 use Rattle.wire.specs.Wire.{wordLimit, Below}
 use Rattle.journal.specs.declared.record.Kind.{Kind}
@@ -37,28 +38,37 @@ restIn m (r ∷ rs) = pick (leb (length (recordBytes r)) m) (restIn (m - length 
 
 -- ---- recovery
 
--- the book, how many records were done, the bytes of the record that is not done, and the fault
+-- the book, how many records were done and how many bytes they have, the bytes of the record that is not done, and the fault
 pub record Recovered : Type 0 where
   pub book : List ℕ
   pub done : ℕ
+  pub bytes : ℕ
   pub rest : List ℕ
   pub fault : Fault
 
--- n records are done; of the next one the bytes p are there
-abbrev pub within : List ℕ → ℕ → List ℕ → Recovered
-within l n p = record { book = l; done = n; rest = p; fault = Fine }
+-- n records of m bytes are done; of the next one the bytes p are there
+abbrev pub within : List ℕ → ℕ → ℕ → List ℕ → Recovered
+within l n m p = record { book = l; done = n; bytes = m; rest = p; fault = Fine }
+
+-- and these bytes are the fault e
+abbrev pub stopped : List ℕ → ℕ → ℕ → List ℕ → Fault → Recovered
+stopped l n m p e = record { book = l; done = n; bytes = m; rest = p; fault = e }
+
+-- without an image recovery starts from the book of zeros
+abbrev pub zeroBook : List ℕ
+zeroBook = replicate bookWords 0
 
 -- before the first byte
 abbrev pub start : List ℕ → Recovered
-start l = within l 0 []
+start l = within l 0 0 []
 
 -- the bytes p of the record are there, and this is what they are
 unfoldable pub takeIn : Recovered → List ℕ → Piece → Recovered
-takeIn s p begun = within (s .book) (s .done) p
-takeIn s p strange = record { book = s .book; done = s .done; rest = p; fault = Strange }
+takeIn s p begun = within (s .book) (s .done) (s .bytes) p
+takeIn s p strange = stopped (s .book) (s .done) (s .bytes) p Strange
 takeIn s p (whole r) =
-    pick (eqb (numberAt (s .book) r) 0) (within (bookAfter (s .book) r) (s .done + 1) [])
-    (record { book = s .book; done = s .done; rest = p; fault = Refused (numberAt (s .book) r) })
+    pick (eqb (numberAt (s .book) r) 0) (within (bookAfter (s .book) r) (s .done + 1) (s .bytes + length p) [])
+    (stopped (s .book) (s .done) (s .bytes) p (Refused (numberAt (s .book) r)))
 
 -- one byte more; after a fault nothing happens
 unfoldable pub stepBy : Fault → Recovered → ℕ → Recovered
@@ -83,25 +93,30 @@ endBy Strange p = 110
 unfoldable pub endOf : Recovered → ℕ
 endOf s = endBy (s .fault) (s .rest)
 
+-- the same, n records of m bytes further on
+unfoldable pub further : ℕ → ℕ → Recovered → Recovered
+further n m s = record { book = s .book; done = n + s .done; bytes = m + s .bytes; rest = s .rest; fault = s .fault }
+
 -- ---- whatever the bytes are
 
 -- how recovery ends, with the bytes that it did not look at: behind a whole record, or before any; within a record whose first byte is a kind and which has more
 -- bytes than are there; at a record that is whole and is refused; at a byte that is no kind
 pub data Ended : Recovered → List ℕ → Type 0 where
-  ends-whole : {l : List ℕ} {n : ℕ} → Ended (within l n []) []
-  ends-cut : {l p : List ℕ} {n b : ℕ} {k : Kind} → kindOf b ≡ some k → length (b ∷ p) < size k (b ∷ p) → Ended (within l n (b ∷ p)) []
-  ends-refused : {l f : List ℕ} {n : ℕ} (r : Request) → Below wordLimit (numbersOf r) → (numberAt l r ≡ 0 → ⊥) →
-      Ended (record { book = l; done = n; rest = recordBytes r; fault = Refused (numberAt l r) }) f
-  ends-strange : {l f : List ℕ} {n b : ℕ} → kindOf b ≡ Option.none → Ended (record { book = l; done = n; rest = b ∷ []; fault = Strange }) f
+  ends-whole : {l : List ℕ} {n m : ℕ} → Ended (within l n m []) []
+  ends-cut : {l p : List ℕ} {n m b : ℕ} {k : Kind} → kindOf b ≡ some k → length (b ∷ p) < size k (b ∷ p) → Ended (within l n m (b ∷ p)) []
+  ends-refused : {l f : List ℕ} {n m : ℕ} (r : Request) → Below wordLimit (numbersOf r) → (numberAt l r ≡ 0 → ⊥) →
+      Ended (stopped l n m (recordBytes r) (Refused (numberAt l r))) f
+  ends-strange : {l f : List ℕ} {n m b : ℕ} → kindOf b ≡ Option.none → Ended (stopped l n m (b ∷ []) Strange) f
 
 -- what the state s, recovered of the bytes f from the book l on, tells of them
 pub record Told (l f : List ℕ) (s : Recovered) : Type 0 where
-  -- the requests of a history from that book on, as many as are told; the book is theirs
+  -- the requests of a history from that book on, as many as are told and with as many bytes; the book is theirs
   pub requests : List Request
   pub history : Done l requests
   pub book : s .book ≡ last l requests
   pub done : s .done ≡ length requests
+  pub bytes : s .bytes ≡ length (journal requests)
   -- their records are the first of the bytes, the rest comes behind them, and then what was not looked at
   pub unread : List ℕ
-  pub bytes : f ≡ journal requests ++ (s .rest ++ unread)
+  pub splits : f ≡ journal requests ++ (s .rest ++ unread)
   pub ended : Ended s unread

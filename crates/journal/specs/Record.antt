@@ -35,27 +35,39 @@ kindOf b =
     (pick (eqb b 4) (some Tick)
     (pick (eqb b 5) (some Take) (pick (eqb b 6) (some Refresh) (pick (eqb b 7) (some Move) (pick (eqb b 8) (some Page) none)))))))
 
--- the bytes before the numbers
+-- what stands behind the kind's byte: n numbers; or a byte that counts, n numbers, and as many more as it counts
+pub data Form : Type 0 where
+  plain counted : ℕ → Form
+
+unfoldable pub formOf : Kind → Form
+formOf Setup = counted 4
+formOf Read = plain 2
+formOf Write = plain 5
+formOf Tick = plain 2
+formOf Take = plain 3
+formOf Refresh = plain 2
+formOf Move = plain 2
+formOf Page = counted 1
+
+-- how many bytes are before the numbers
+unfoldable pub headBy : Form → ℕ
+headBy (plain n) = 1
+headBy (counted n) = 2
+
 unfoldable pub headSize : Kind → ℕ
-headSize Setup = 2
-headSize Read = 1
-headSize Write = 1
-headSize Tick = 1
-headSize Take = 1
-headSize Refresh = 1
-headSize Move = 1
-headSize Page = 2
+headSize k = headBy (formOf k)
 
 -- how many numbers there are, as far as the bytes p of the record say
+unfoldable pub numbersBy : Form → List ℕ → ℕ
+numbersBy (plain n) p = n
+numbersBy (counted n) p = n + getD p 1 0
+
 unfoldable pub numbersIn : Kind → List ℕ → ℕ
-numbersIn Setup p = 4 + getD p 1 0
-numbersIn Read p = 2
-numbersIn Write p = 5
-numbersIn Tick p = 2
-numbersIn Take p = 3
-numbersIn Refresh p = 2
-numbersIn Move p = 2
-numbersIn Page p = 1 + getD p 1 0
+numbersIn k p = numbersBy (formOf k) p
+
+-- and how many bytes the record has
+unfoldable pub size : Kind → List ℕ → ℕ
+size k p = headSize k + 4 * numbersIn k p
 
 -- ---- from a request to its record
 
@@ -81,16 +93,14 @@ numbersOf (call (refresh d s)) = d ∷ s ∷ []
 numbersOf (call (move c d)) = c ∷ d ∷ []
 numbersOf (call (list c ks)) = c ∷ ks
 
--- the bytes before them
+-- the byte that counts, where there is one: how many of the numbers ns come behind the first n
+unfoldable pub countBy : Form → List ℕ → List ℕ
+countBy (plain n) ns = []
+countBy (counted n) ns = length (drop n ns) ∷ []
+
+-- the bytes before the numbers
 unfoldable pub headOf : Request → List ℕ
-headOf (setup n homes) = byteOf Setup ∷ length homes ∷ []
-headOf (call (read c k)) = byteOf Read ∷ []
-headOf (call (write c k payload)) = byteOf Write ∷ []
-headOf (call (tick d s)) = byteOf Tick ∷ []
-headOf (call (take d s from)) = byteOf Take ∷ []
-headOf (call (refresh d s)) = byteOf Refresh ∷ []
-headOf (call (move c d)) = byteOf Move ∷ []
-headOf (call (list c ks)) = byteOf Page ∷ length ks ∷ []
+headOf r = byteOf (kindIn r) ∷ countBy (formOf (kindIn r)) (numbersOf r)
 
 -- the record of a request
 unfoldable pub recordBytes : Request → List ℕ
@@ -109,18 +119,18 @@ requestBy Refresh ns = call (refresh (getD ns 0 0) (getD ns 1 0))
 requestBy Move ns = call (move (getD ns 0 0) (getD ns 1 0))
 requestBy Page ns = call (list (getD ns 0 0) (drop 1 ns))
 
+-- what bytes that begin with a record of the kind k ask
+unfoldable pub requestIn : Kind → List ℕ → Request
+requestIn k p = requestBy k (wordsAt p (headSize k) (numbersIn k p))
+
 -- what the bytes of a record so far are: not all of it, of no kind, or all of it, which asks this
 pub data Piece : Type 0 where
   begun strange : Piece
   whole : Request → Piece
 
--- how many bytes the record has, as far as those that are there say
-unfoldable pub size : Kind → List ℕ → ℕ
-size k p = headSize k + 4 * numbersIn k p
-
 unfoldable pub pieceBy : Option Kind → List ℕ → Piece
 pieceBy none p = strange
-pieceBy (some k) p = pick (ltb (length p) (size k p)) begun (whole (requestBy k (wordsAt p (headSize k) (numbersIn k p))))
+pieceBy (some k) p = pick (ltb (length p) (size k p)) begun (whole (requestIn k p))
 
 unfoldable pub piece : List ℕ → Piece
 piece p = pieceBy (kindOf (getD p 0 0)) p
