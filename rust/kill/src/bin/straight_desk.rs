@@ -19,6 +19,10 @@ enum Slip {
     None,
     /// An answer is given before its record is written.
     AnswersFirst,
+    /// Records are written, but not synced.
+    NeverSyncs,
+    /// The answers are given between the write and the sync.
+    SyncsLate,
     /// Records are written when there are many.
     Gathers,
     /// What is left of a torn record stays in the file.
@@ -37,9 +41,11 @@ enum Slip {
     SavesAnother,
 }
 
-const SLIPS: [(&str, Slip); 10] = [
+const SLIPS: [(&str, Slip); 12] = [
     ("None", Slip::None),
     ("AnswersFirst", Slip::AnswersFirst),
+    ("NeverSyncs", Slip::NeverSyncs),
+    ("SyncsLate", Slip::SyncsLate),
     ("Gathers", Slip::Gathers),
     ("KeepsTail", Slip::KeepsTail),
     ("RecordsRefusals", Slip::RecordsRefusals),
@@ -120,19 +126,25 @@ fn desk(slip: Slip, path: &str, image: Option<&str>) -> Result<(), String> {
             answers += &answer;
         }
         let mut give = |answers: &str| output.write_all(answers.as_bytes()).and_then(|()| output.flush()).map_err(told("answers"));
-        if slip == Slip::AnswersFirst {
-            give(&answers)?;
-            sleep(Duration::from_millis(1));
-        }
-        if slip != Slip::Gathers || records.len() > 2_000 || length == 0 {
-            let written = file.write_all(&records).and_then(|()| file.sync_data());
+        let early = match slip {
+            Slip::AnswersFirst => 1,
+            Slip::SyncsLate => 2,
+            _ => 3,
+        };
+        for step in 1..=3 {
+            if step == early {
+                give(&answers)?;
+                sleep(Duration::from_millis(u64::from(early < 3)));
+            }
+            let written = match step {
+                1 if slip == Slip::Gathers && records.len() < 2_000 && length > 0 => Ok(()),
+                1 => file.write_all(&std::mem::take(&mut records)),
+                2 if slip != Slip::NeverSyncs => file.sync_data(),
+                _ => Ok(()),
+            };
             if slip != Slip::GoesOnWhenFull {
                 written.map_err(told(path))?;
             }
-            records.clear();
-        }
-        if slip != Slip::AnswersFirst {
-            give(&answers)?;
         }
         if length == 0 {
             return Ok(());
@@ -147,5 +159,6 @@ fn snapshot(slip: Slip, path: &str, to: &str, image: Option<&str>) -> Result<(),
     }
     let mut bytes = vec![0; IMAGE];
     save_image(&book, &mut bytes).map_err(|number| format!("{}: {}", path, number))?;
-    fs::write(to, bytes).map_err(told(to))
+    let mut file = File::create(to).map_err(told(to))?;
+    file.write_all(&bytes).and_then(|()| file.sync_all()).map_err(told(to))
 }
