@@ -12,7 +12,7 @@ use Rattle.book.specs.Layout.{countsOf, home, linkOf, held, taken, stored}
 use Rattle.fit.specs.Fit.{fit}
 use Rattle.register.specs.Answers.{told}
 use Rattle.paper.specs.Calls.{Call, read, move, Answer, reads}
-use Rattle.paper.specs.declared.request.Event.{Event}
+use Rattle.request.specs.declared.ask.Event.{Event}
 use Rattle.line.specs.Reading.{good, reading}
 use Rattle.events.specs.Answering as events
 use Rattle.calls.specs.Performed.{requestOf}

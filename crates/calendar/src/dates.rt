@@ -6,7 +6,7 @@ use months::days_in_month;
 use months::starts::MONTHS;
 use months::starts::month_start;
 use months::starts::month_starts;
-use paper::request::LAST_DAY;
+use paper::answer::LAST_DAY;
 ghost use mathlib.Core.Path.{_≡_};
 ghost use mathlib.Core.Bool.{true};
 ghost use Prim.Native.Nat.{_≤_, _<_, min};

@@ -3,27 +3,31 @@
 use Prim.Native.Nat.{ℕ, _+_, _≤_, _<_}
 use native.Mathlib.Omega.{arith}
 use mathlib.Core.Path.{_≡_, refl, sym, _∙_, ap, subst}
-use mathlib.Core.List.{List, [], _∷_}
+use mathlib.Core.List.{List, [], _∷_, map}
 use mathlib.Core.Bool.{Bool, true, false}
 use lib.Dec.{eqb}
 use lib.ListN as list
-use lib.ListN.{length, replicate, length-append, length-take}
+use lib.ListN.{length, length-map, replicate, length-append, length-take}
 use lib.Seq.{length-sets}
+use borrow.Author.Tests.{eqb-true}
 use Rattle.loops.specs.Loops.{pick}
 use Rattle.order.specs.Record.{vectorOf}
-use Rattle.book.specs.Layout.{countsOf}
+use Rattle.order.specs.Vector.{zeros}
+use Rattle.book.specs.Layout.{countsOf, home, stored}
 use Rattle.shelf.proofs.FrameLaws.{pick-cases}
-use Rattle.paper.specs.Calls.{Answer, answerBy}
-use Rattle.paper.specs.Answers.{entriesIn, tellings}
-use Rattle.paper.specs.Requests.{requestIn}
-use Rattle.paper.specs.declared.request.Event.{Event}
-use Rattle.paper.specs.declared.request.Event.the-variants as event
-use Rattle.register.specs.Answers.{cut, written}
-use Rattle.register.specs.Calls.{readRecord}
+use Rattle.paper.specs.Calls.{Told, listed, answerBy}
+use Rattle.paper.specs.Answers.{entriesIn, entriesTold, tellings}
+use Rattle.request.specs.Requests.{requestIn, besideIn}
+use Rattle.request.specs.declared.ask.Event.{Event}
+use Rattle.request.specs.declared.ask.Event.the-variants as event
+use Rattle.register.specs.Answers.{cut, told, written}
+use Rattle.register.specs.Calls.{readRecord, pageBook, pageTold}
+use Rattle.register.specs.Table.{listNumber}
 use Rattle.register.proofs.HomeLaws.{told-entries}
+use Rattle.register.proofs.ListTable.{list-done, list-size-in}
 use Rattle.upkeep.specs.Requests.{numberAt, doneAnswer, replyTo}
 use Rattle.calls.specs.Performed.{requestOf}
-use Rattle.line.specs.Grammar.{InGrammar}
+use Rattle.line.specs.Grammar.{mostNumbers, InGrammar}
 use Rattle.line.specs.Reading.{Reading, bad, good, reading, lineOf}
 use Rattle.line.specs.Printing.{Wrote}
 use Rattle.line.specs.declared.reader.Said.the-variants.{BadLine, Names}
@@ -31,7 +35,8 @@ use Rattle.line.specs.declared.reader.Line.{Line}
 use Rattle.line.proofs.Theorems.{read-says, most-fits, answer-says}
 use Rattle.line.proofs.PrintLaws.{wrote-length, decimal-length}
 use Rattle.reply.specs.Printed.{answerRoom}
-use Rattle.reply.proofs.RoomLaws.{printed-length}
+use Rattle.reply.proofs.PageLaws.{AllFew}
+use Rattle.reply.proofs.RoomLaws.{Short, no-list, printed-length}
 use Rattle.events.specs.Answering.{eventSays, readingSays, readingBook, answerTo}
 
 -- ---- the numbers of a line
@@ -41,15 +46,15 @@ unfolding lineOf
 bad-only bad h = refl
 bad-only (good e ns) h = absurd (let z : _≡_ {A = ℕ} 0 1 = cc in omega arith)
 
-most-numbers : (s : List ℕ) (r : Reading) → reading s ≡ r → lineOf r .count ≤ 20
+most-numbers : (s : List ℕ) (r : Reading) → reading s ≡ r → lineOf r .count ≤ mostNumbers
 unfolding lineOf
 most-numbers s bad p = omega arith
 most-numbers s (good e ns) p = let h = read-says s e ns p .not-over in let k = most-fits e in omega arith
 
-numbers-room : (r : Reading) → length (lineOf r .numbers) ≡ 20
+numbers-room : (r : Reading) → length (lineOf r .numbers) ≡ mostNumbers
 unfolding lineOf
 numbers-room bad = refl
-numbers-room (good e ns) = length-sets (replicate 20 0) 0 ns
+numbers-room (good e ns) = length-sets (replicate mostNumbers 0) 0 ns
 
 module _ {t : Line} (s : List ℕ) (p : t ≡ lineOf (reading s)) where
   -- a line that the reader says is bad
@@ -60,10 +65,10 @@ module _ {t : Line} (s : List ℕ) (p : t ≡ lineOf (reading s)) where
   pub told-event : (e : Event) → t .said ≡ Names e → InGrammar s e (list.take (t .count) (t .numbers))
   told-event e h = subst (λ (x : Line). x .said ≡ Names e → InGrammar s e (list.take (x .count) (x .numbers))) (sym p) (answer-says s e) h
 
-  pub told-count : t .count ≤ 20
-  told-count = subst (λ (x : Line). x .count ≤ 20) (sym p) (most-numbers s (reading s) refl)
+  pub told-count : t .count ≤ mostNumbers
+  told-count = subst (λ (x : Line). x .count ≤ mostNumbers) (sym p) (most-numbers s (reading s) refl)
 
-  pub told-room : length (t .numbers) ≡ 20
+  pub told-room : length (t .numbers) ≡ mostNumbers
   told-room = ap (λ (x : Line). length (x .numbers)) p ∙ numbers-room (reading s)
 
   pub told-part : t .count ≡ length (list.take (t .count) (t .numbers))
@@ -78,38 +83,54 @@ answered-reading l {l′} {o} {o′} {at} {r} p w = subst (λ (x : Reading). (l�
 
 -- ---- no answer is longer than its room
 
--- few entries, and no list
-abbrev Short : Answer → Type 0
-Short a = (length (entriesIn a) ≤ 4) × (length (tellings a) ≤ 0)
-
 written-short : (stamp : ℕ) (b : Bool) → Short (written stamp b)
 unfolding written pick entriesIn tellings
-written-short stamp true = (omega arith, omega arith)
-written-short stamp false = (omega arith, omega arith)
+written-short stamp true = no-list _ (omega arith) refl
+written-short stamp false = no-list _ (omega arith) refl
 
--- a read tells at most four entries, and nothing else that a line asks tells any
-done-short : (l : List ℕ) (e : Event) (ns : List ℕ) → Short (doneAnswer l (requestOf e ns))
-unfolding doneAnswer entriesIn tellings cut requestOf requestIn
-done-short l event.Setup ns = (omega arith, omega arith)
-done-short l event.Read ns =
-    let n = countsOf l .depots in
-    let r = readRecord l (list.getD ns 0 0) (list.getD ns 1 0) in
+-- of a bearing at most four entries are told, and so of each of a list
+told-few : (n : ℕ) (r : List ℕ) → length (entriesTold (told n r)) ≤ 4
+unfolding told entriesTold cut
+told-few n r =
     let part = length-take n (cut n (vectorOf r)) in
-    let same = ap (λ (v : List ℕ). length v) (told-entries n r) in
-    (omega arith, omega arith)
-done-short l event.Write ns = written-short _ _
-done-short l event.Tick ns = (omega arith, omega arith)
-done-short l event.Take ns = (omega arith, omega arith)
-done-short l event.Refresh ns = (omega arith, omega arith)
+    pick-cases (λ (t : Told). length (entriesTold t) ≤ 4) (zeros n (vectorOf r)) _ _ (λ z. omega arith) λ z. omega arith
 
-reply-short : (l : List ℕ) (e : Event) (ns : List ℕ) → Short (replyTo l (requestOf e ns))
+each-few : (f : ℕ → Told) → ((k : ℕ) → length (entriesTold (f k)) ≤ 4) → (ks : List ℕ) → AllFew (map f ks)
+unfolding AllFew
+each-few f h [] = tt
+each-few f h (k ∷ ks) = (h k, each-few f h ks)
+
+list-short : (l : List ℕ) (c : ℕ) (ks : List ℕ) → listNumber l c ks ≡ 0 → Short (listed (pageTold l c ks))
+unfolding pageTold entriesIn tellings
+list-short l c ks h =
+    let size = list-size-in ks (list-done l c ks h .size) .1 in
+    let same = length-map ks (λ k. told (countsOf l .depots) (stored (pageBook l c) (home l c) k)) in
+    record { entries = omega arith; bearings = omega arith; each = each-few _ (λ k. told-few _ _) ks }
+
+-- a read tells at most four entries, a list of at most eight bearings, and nothing else that a line asks tells any
+done-short : (l : List ℕ) (e : Event) (ns : List ℕ) → numberAt l (requestOf e ns) ≡ 0 → Short (doneAnswer l (requestOf e ns))
+unfolding numberAt doneAnswer entriesIn tellings cut requestOf requestIn
+done-short l event.Setup ns h = no-list _ (omega arith) refl
+done-short l event.Read ns h =
+    let r = readRecord l (list.getD ns 0 0) (list.getD ns 1 0) in
+    let part = length-take (countsOf l .depots) (cut (countsOf l .depots) (vectorOf r)) in
+    let same = ap (λ (v : List ℕ). length v) (told-entries (countsOf l .depots) r) in
+    no-list _ (omega arith) refl
+done-short l event.Write ns h = written-short _ _
+done-short l event.Tick ns h = no-list _ (omega arith) refl
+done-short l event.Take ns h = no-list _ (omega arith) refl
+done-short l event.Refresh ns h = no-list _ (omega arith) refl
+done-short l event.List ns h = list-short l (list.getD ns 0 0) (besideIn event.List ns) h
+
+pub reply-short : (l : List ℕ) (e : Event) (ns : List ℕ) → Short (replyTo l (requestOf e ns))
 unfolding replyTo answerBy entriesIn tellings
-reply-short l e ns = pick-cases Short (eqb (numberAt l (requestOf e ns)) 0) _ _ (λ z. done-short l e ns) λ z. (omega arith, omega arith)
+reply-short l e ns =
+    pick-cases Short (eqb (numberAt l (requestOf e ns)) 0) _ _ (λ z. done-short l e ns (eqb-true _ _ z)) λ z. no-list _ (omega arith) refl
 
 pub reading-length : (l : List ℕ) (r : Reading) → length (readingSays l r) < answerRoom
 unfolding readingSays eventSays
 reading-length l bad = let h = decimal-length 13 in omega arith
-reading-length l (good e ns) = let h = reply-short l e ns in printed-length _ (h .0) (h .1)
+reading-length l (good e ns) = printed-length _ (reply-short l e ns)
 
 pub answer-length : (l s : List ℕ) → length (answerTo l s) ≤ answerRoom
 unfolding answerTo

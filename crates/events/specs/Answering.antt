@@ -2,7 +2,7 @@
 -- Assumes nothing.
 use Prim.Native.Nat.{ℕ}
 use mathlib.Core.List.{List, [], _∷_, _++_}
-use Rattle.paper.specs.declared.request.Event.{Event}
+use Rattle.request.specs.declared.ask.Event.{Event}
 use Rattle.upkeep.specs.Requests as requests
 use Rattle.upkeep.specs.Requests.{replyTo}
 use Rattle.calls.specs.Performed.{requestOf}

@@ -3,10 +3,10 @@ use calls::perform::perform;
 use line::answers::answer_number;
 use line::reader::Said;
 use line::reader::read_line;
-use paper::request::Event;
-use paper::request::homes_in;
-use paper::request::request_of;
 use reply::say;
+use request::ask::Event;
+use request::ask::beside_in;
+use request::ask::request_of;
 ghost use mathlib.Core.Path.{_≡_};
 ghost use Prim.Native.Nat.{_+_, _≤_};
 ghost use lib.ListN.{length};
@@ -26,7 +26,7 @@ fn run_event(book: &mut [u32], event: Event, numbers: &[u32], out: &mut [u8], at
     ensures { λ r. ⌜ Wrote (now (out .entry)) at (eventSays (now (book .entry)) event (now (numbers .entry))) (now (out .exit)) r ⌝ }
 {
     let request = request_of(event, numbers);
-    let reply = perform(book, request, homes_in(numbers));
+    let reply = perform(book, request, beside_in(event, numbers));
     say(reply, out, at)
 }
 

@@ -10,10 +10,10 @@ use Rattle.line.specs.Number.{spelled, decimal, isDigit, digitRun, value
 use Rattle.line.specs.Grammar.{spaced}
 use Rattle.line.specs.Answers.{numberAnswer, valueAnswer, unwrittenAnswer, stampAnswer}
 use Rattle.line.specs.Reading.{bad, good, eventOf, before, numbersIn, counted, named, headed, reading}
-use Rattle.paper.specs.declared.request.Event.the-variants.{Setup, Read, Write, Tick, Take, Refresh}
+use Rattle.request.specs.declared.ask.Event.the-variants as event
 
 -- the listing's first line
-listing-setup : reading (83 ∷ 32 ∷ 50 ∷ 32 ∷ 50 ∷ 32 ∷ 52 ∷ 32 ∷ 50 ∷ 32 ∷ 48 ∷ 32 ∷ 49 ∷ []) ≡ good Setup (2 ∷ 2 ∷ 4 ∷ 2 ∷ 0 ∷ 1 ∷ [])
+listing-setup : reading (83 ∷ 32 ∷ 50 ∷ 32 ∷ 50 ∷ 32 ∷ 52 ∷ 32 ∷ 50 ∷ 32 ∷ 48 ∷ 32 ∷ 49 ∷ []) ≡ good event.Setup (2 ∷ 2 ∷ 4 ∷ 2 ∷ 0 ∷ 1 ∷ [])
 unfolding pick isDigit digitRun valueFrom spareZero isNumber eventOf before numbersIn counted named headed reading
 listing-setup = refl
 
@@ -21,24 +21,24 @@ listing-setup = refl
 one : List ℕ
 one = 32 ∷ 49 ∷ 48 ∷ 54 ∷ 53 ∷ 51 ∷ 53 ∷ 51 ∷ 50 ∷ 49 ∷ 54 ∷ []
 
-listing-write : reading ((87 ∷ 32 ∷ 48 ∷ 32 ∷ 49 ∷ 32 ∷ 51 ∷ 48 ∷ []) ++ (one ++ one)) ≡ good Write (0 ∷ 1 ∷ 30 ∷ 1065353216 ∷ 1065353216 ∷ [])
+listing-write : reading ((87 ∷ 32 ∷ 48 ∷ 32 ∷ 49 ∷ 32 ∷ 51 ∷ 48 ∷ []) ++ (one ++ one)) ≡ good event.Write (0 ∷ 1 ∷ 30 ∷ 1065353216 ∷ 1065353216 ∷ [])
 unfolding one pick isDigit digitRun valueFrom spareZero isNumber eventOf before numbersIn counted named headed reading
 listing-write = refl
 
-listing-tick : reading (75 ∷ 32 ∷ 48 ∷ 32 ∷ 49 ∷ []) ≡ good Tick (0 ∷ 1 ∷ [])
+listing-tick : reading (75 ∷ 32 ∷ 48 ∷ 32 ∷ 49 ∷ []) ≡ good event.Tick (0 ∷ 1 ∷ [])
 unfolding pick isDigit digitRun valueFrom spareZero isNumber eventOf before numbersIn counted named headed reading
 listing-tick = refl
 
-listing-take : reading (84 ∷ 32 ∷ 49 ∷ 32 ∷ 48 ∷ 32 ∷ 48 ∷ []) ≡ good Take (1 ∷ 0 ∷ 0 ∷ [])
+listing-take : reading (84 ∷ 32 ∷ 49 ∷ 32 ∷ 48 ∷ 32 ∷ 48 ∷ []) ≡ good event.Take (1 ∷ 0 ∷ 0 ∷ [])
 unfolding pick isDigit digitRun valueFrom spareZero isNumber eventOf before numbersIn counted named headed reading
 listing-take = refl
 
-listing-refresh : reading (70 ∷ 32 ∷ 49 ∷ 32 ∷ 48 ∷ []) ≡ good Refresh (1 ∷ 0 ∷ [])
+listing-refresh : reading (70 ∷ 32 ∷ 49 ∷ 32 ∷ 48 ∷ []) ≡ good event.Refresh (1 ∷ 0 ∷ [])
 unfolding pick isDigit digitRun valueFrom spareZero isNumber eventOf before numbersIn counted named headed reading
 listing-refresh = refl
 
 -- the largest number, and the first that is none
-largest-number : reading (82 ∷ 32 ∷ 48 ∷ 32 ∷ 52 ∷ 50 ∷ 57 ∷ 52 ∷ 57 ∷ 54 ∷ 55 ∷ 50 ∷ 57 ∷ 53 ∷ []) ≡ good Read (0 ∷ 4294967295 ∷ [])
+largest-number : reading (82 ∷ 32 ∷ 48 ∷ 32 ∷ 52 ∷ 50 ∷ 57 ∷ 52 ∷ 57 ∷ 54 ∷ 55 ∷ 50 ∷ 57 ∷ 53 ∷ []) ≡ good event.Read (0 ∷ 4294967295 ∷ [])
 unfolding pick isDigit digitRun valueFrom spareZero isNumber eventOf before numbersIn counted named headed reading
 largest-number = refl
 
@@ -83,13 +83,35 @@ ones zero = []
 ones (suc n) = 32 ∷ 49 ∷ ones n
 
 -- twenty numbers, and one more
-setup-of-twenty : reading (83 ∷ ones 20) ≡ good Setup (replicate 20 1)
+setup-of-twenty : reading (83 ∷ ones 20) ≡ good event.Setup (replicate 20 1)
 unfolding ones pick isDigit digitRun valueFrom spareZero isNumber eventOf before numbersIn counted named headed reading
 setup-of-twenty = refl
 
 setup-of-21 : reading (83 ∷ ones 21) ≡ bad
 unfolding ones pick isDigit digitRun valueFrom spareZero isNumber eventOf before numbersIn counted named headed reading
 setup-of-21 = refl
+
+-- a list of no bearings, of one twice, and without a crew
+list-of-none : reading (76 ∷ 32 ∷ 48 ∷ []) ≡ good event.List (0 ∷ [])
+unfolding pick isDigit digitRun valueFrom spareZero isNumber eventOf before numbersIn counted named headed reading
+list-of-none = refl
+
+list-of-one-twice : reading (76 ∷ 32 ∷ 48 ∷ 32 ∷ 51 ∷ 32 ∷ 51 ∷ []) ≡ good event.List (0 ∷ 3 ∷ 3 ∷ [])
+unfolding pick isDigit digitRun valueFrom spareZero isNumber eventOf before numbersIn counted named headed reading
+list-of-one-twice = refl
+
+list-of-nobody : reading (76 ∷ []) ≡ bad
+unfolding pick isDigit digitRun valueFrom spareZero isNumber eventOf before numbersIn counted named headed reading
+list-of-nobody = refl
+
+-- a crew and 58 bearings, 119 bytes: no line has more numbers
+list-of-58 : reading (76 ∷ ones 59) ≡ good event.List (replicate 59 1)
+unfolding ones pick isDigit digitRun valueFrom spareZero isNumber eventOf before numbersIn counted named headed reading
+list-of-58 = refl
+
+list-of-59 : reading (76 ∷ ones 60) ≡ bad
+unfolding ones pick isDigit digitRun valueFrom spareZero isNumber eventOf before numbersIn counted named headed reading
+list-of-59 = refl
 
 -- answers of the listing, and the longest number
 answer-wait : numberAnswer 8 ≡ 56 ∷ []

@@ -15,8 +15,8 @@ use Rattle.loops.proofs.BoolLaws.{decided, and-left, and-right, and-intro, eq-o
 use Rattle.line.specs.Number.{decimal, digitRun, valueFrom, isNumber}
 use Rattle.line.specs.Grammar.{letter, spaced, wordSized}
 use Rattle.line.specs.Reading.{eventOf, before, numbersIn}
-use Rattle.paper.specs.declared.request.Event.{Event}
-use Rattle.paper.specs.declared.request.Event.the-variants.{Setup, Read, Write, Tick, Take, Refresh}
+use Rattle.request.specs.declared.ask.Event.{Event}
+use Rattle.request.specs.declared.ask.Event.the-variants as event
 use Rattle.line.proofs.DigitLaws.{digit-low, run-other}
 use Rattle.line.proofs.NumberLaws.{number-parts}
 use Rattle.line.proofs.ReadingLaws.{numbers-right, numbers-wrong, numbers-nothing}
@@ -92,13 +92,14 @@ numbers-read (suc k) (b ∷ l) ns e =
 -- a byte is an event's letter, or none's
 pub letter-or-none : (b : ℕ) → ((e : Event) × (b ≡ letter e)) ⊎ ((e : Event) → b ≡ letter e → ⊥)
 letter-or-none b =
-    ⊎-elim (λ (p : b ≡ 83). inl (Setup, p)) (λ (s : b ≡ 83 → ⊥).
-    ⊎-elim (λ (p : b ≡ 82). inl (Read, p)) (λ (r : b ≡ 82 → ⊥).
-    ⊎-elim (λ (p : b ≡ 87). inl (Write, p)) (λ (w : b ≡ 87 → ⊥).
-    ⊎-elim (λ (p : b ≡ 75). inl (Tick, p)) (λ (k : b ≡ 75 → ⊥).
-    ⊎-elim (λ (p : b ≡ 84). inl (Take, p)) (λ (t : b ≡ 84 → ⊥).
-    ⊎-elim (λ (p : b ≡ 70). inl (Refresh, p)) (λ (f : b ≡ 70 → ⊥). inr (no-letter b s r w k t f))
-    (eq-or-ne b 70)) (eq-or-ne b 84)) (eq-or-ne b 75)) (eq-or-ne b 87)) (eq-or-ne b 82)) (eq-or-ne b 83)
+    ⊎-elim (λ (p : b ≡ 83). inl (event.Setup, p)) (λ (s : b ≡ 83 → ⊥).
+    ⊎-elim (λ (p : b ≡ 82). inl (event.Read, p)) (λ (r : b ≡ 82 → ⊥).
+    ⊎-elim (λ (p : b ≡ 87). inl (event.Write, p)) (λ (w : b ≡ 87 → ⊥).
+    ⊎-elim (λ (p : b ≡ 75). inl (event.Tick, p)) (λ (k : b ≡ 75 → ⊥).
+    ⊎-elim (λ (p : b ≡ 84). inl (event.Take, p)) (λ (t : b ≡ 84 → ⊥).
+    ⊎-elim (λ (p : b ≡ 70). inl (event.Refresh, p)) (λ (f : b ≡ 70 → ⊥).
+    ⊎-elim (λ (p : b ≡ 76). inl (event.List, p)) (λ (l : b ≡ 76 → ⊥). inr (no-letter b s r w k t f l))
+    (eq-or-ne b 76)) (eq-or-ne b 70)) (eq-or-ne b 84)) (eq-or-ne b 75)) (eq-or-ne b 87)) (eq-or-ne b 82)) (eq-or-ne b 83)
 
 pub event-back : (b : ℕ) (e : Event) → eventOf b ≡ some e → b ≡ letter e
 event-back b e h =

@@ -11,37 +11,41 @@ use Rattle.loops.specs.Loops.{pick}
 use Rattle.loops.proofs.BoolLaws.{pick-true, pick-false}
 use Rattle.line.specs.Grammar.{letter, least, most}
 use Rattle.line.specs.Reading.{bad, eventOf, numbersIn, counted, named, headed, reading}
-use Rattle.paper.specs.declared.request.Event.{Event}
-use Rattle.paper.specs.declared.request.Event.the-variants.{Setup, Read, Write, Tick, Take, Refresh}
+use Rattle.request.specs.declared.ask.Event.{Event}
+use Rattle.request.specs.declared.ask.Event.the-variants as event
 
 pub event-letter : (e : Event) → eventOf (letter e) ≡ some e
 unfolding eventOf pick
-event-letter Setup = refl
-event-letter Read = refl
-event-letter Write = refl
-event-letter Tick = refl
-event-letter Take = refl
-event-letter Refresh = refl
+event-letter event.Setup = refl
+event-letter event.Read = refl
+event-letter event.Write = refl
+event-letter event.Tick = refl
+event-letter event.Take = refl
+event-letter event.Refresh = refl
+event-letter event.List = refl
 
 -- a byte that is no event's letter names none
 pub event-none : (b : ℕ) → ((e : Event) → b ≡ letter e → ⊥) → eventOf b ≡ none
 unfolding eventOf
 event-none b h =
-    pick-false _ _ (ne-eqb b 83 (h Setup))
-    ∙ pick-false _ _ (ne-eqb b 82 (h Read))
-    ∙ pick-false _ _ (ne-eqb b 87 (h Write))
-    ∙ pick-false _ _ (ne-eqb b 75 (h Tick))
-    ∙ pick-false _ _ (ne-eqb b 84 (h Take))
-    ∙ pick-false _ _ (ne-eqb b 70 (h Refresh))
+    pick-false _ _ (ne-eqb b 83 (h event.Setup))
+    ∙ pick-false _ _ (ne-eqb b 82 (h event.Read))
+    ∙ pick-false _ _ (ne-eqb b 87 (h event.Write))
+    ∙ pick-false _ _ (ne-eqb b 75 (h event.Tick))
+    ∙ pick-false _ _ (ne-eqb b 84 (h event.Take))
+    ∙ pick-false _ _ (ne-eqb b 70 (h event.Refresh))
+    ∙ pick-false _ _ (ne-eqb b 76 (h event.List))
 
--- six bytes that a byte is not are the six letters
-pub no-letter : (b : ℕ) → (b ≡ 83 → ⊥) → (b ≡ 82 → ⊥) → (b ≡ 87 → ⊥) → (b ≡ 75 → ⊥) → (b ≡ 84 → ⊥) → (b ≡ 70 → ⊥) → (e : Event) → b ≡ letter e → ⊥
-no-letter b s r w k t f Setup = s
-no-letter b s r w k t f Read = r
-no-letter b s r w k t f Write = w
-no-letter b s r w k t f Tick = k
-no-letter b s r w k t f Take = t
-no-letter b s r w k t f Refresh = f
+-- seven bytes that a byte is not are the seven letters
+pub no-letter :
+    (b : ℕ) → (b ≡ 83 → ⊥) → (b ≡ 82 → ⊥) → (b ≡ 87 → ⊥) → (b ≡ 75 → ⊥) → (b ≡ 84 → ⊥) → (b ≡ 70 → ⊥) → (b ≡ 76 → ⊥) → (e : Event) → b ≡ letter e → ⊥
+no-letter b s r w k t f l event.Setup = s
+no-letter b s r w k t f l event.Read = r
+no-letter b s r w k t f l event.Write = w
+no-letter b s r w k t f l event.Tick = k
+no-letter b s r w k t f l event.Take = t
+no-letter b s r w k t f l event.Refresh = f
+no-letter b s r w k t f l event.List = l
 
 pub reading-long : (s : List ℕ) → 120 < length s → reading s ≡ bad
 unfolding reading

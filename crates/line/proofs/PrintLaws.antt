@@ -12,9 +12,9 @@ use lib.Seq.{sets, sets-eq, length-sets, take-suc, take-take, take-all, take-app
 use Rattle.line.specs.Number.{decimal}
 use Rattle.line.specs.Grammar.{spaced}
 use Rattle.paper.specs.declared.answer.Payload.{Payload}
-use Rattle.line.specs.Answers.{valueAnswer, unwrittenAnswer, standing, stampAnswer}
+use Rattle.line.specs.Answers.{valueTold, unwrittenTold, standing, stampAnswer}
 use Rattle.line.specs.Printing.{Room, Wrote}
-use Rattle.line.proofs.SpellingLaws.{spelled-length, decimal-one, decimal-more}
+use Rattle.line.proofs.SpellingLaws.{spelled-length, spelled-some, decimal-one, decimal-more}
 
 pub sets-append : (xs ys o : List ℕ) (at : ℕ) → sets o at (xs ++ ys) ≡ sets (sets o at xs) (at + length xs) ys
 sets-append [] ys o at = ap (λ (i : ℕ). sets o i ys) (sym (add-zero at))
@@ -138,19 +138,29 @@ spaced-length (n ∷ ns) =
     let k = spaced-length ns in
     omega arith
 
+-- and at least
+pub spaced-least : (ns : List ℕ) → 2 * length ns ≤ length (spaced ns)
+unfolding spaced decimal
+spaced-least [] = omega arith
+spaced-least (n ∷ ns) =
+    let e = length-append (decimal n) (spaced ns) in
+    let h = spelled-some 9 n in
+    let k = spaced-least ns in
+    omega arith
+
 pub room-enough : {o : List ℕ} {at : ℕ} (bytes : List ℕ) (n : ℕ) → length bytes ≤ n → at + n ≤ length o → Room o at bytes
 room-enough bytes n h l = record { room = omega arith }
 
--- an answer of a register of D depots has at most 34 + 11 D bytes
-pub value-answer-length : (p : Payload) (vector : List ℕ) → length (valueAnswer p vector) ≤ 34 + 11 * length vector
-value-answer-length p vector =
+-- what is told of a bearing of a register of D depots has at most 33 + 11 D bytes
+pub value-told-length : (p : Payload) (vector : List ℕ) → length (valueTold p vector) ≤ 33 + 11 * length vector
+value-told-length p vector =
     let e = length-append (spaced (p .value ∷ p .diameter ∷ p .width ∷ [])) (spaced vector) in
     let h = spaced-length (p .value ∷ p .diameter ∷ p .width ∷ []) in
     let k = spaced-length vector in
     omega arith
 
-pub unwritten-answer-length : (vector : List ℕ) → length (unwrittenAnswer vector) ≤ 3 + 11 * length vector
-unwritten-answer-length vector = let k = spaced-length vector in omega arith
+pub unwritten-told-length : (vector : List ℕ) → length (unwrittenTold vector) ≤ 2 + 11 * length vector
+unwritten-told-length vector = let k = spaced-length vector in omega arith
 
 pub stamp-answer-length : (stamp : ℕ) (current : Bool) → length (stampAnswer stamp current) ≤ 14
 stamp-answer-length stamp current =

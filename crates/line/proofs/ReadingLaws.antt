@@ -15,8 +15,9 @@ use borrow.Author.Tests.{le-leb, lt-leb, eq-eqb, ne-eqb}
 use Rattle.loops.specs.Loops.{pick}
 use Rattle.loops.proofs.BoolLaws.{and-intro, pick-true, pick-false}
 use Rattle.line.specs.Number.{digitRun, valueFrom, isNumber}
+use Rattle.line.specs.Grammar.{mostNumbers}
 use Rattle.line.specs.Reading.{bad, good, before, numbersIn, counted, badLine, lineOf}
-use Rattle.paper.specs.declared.request.Event.{Event}
+use Rattle.request.specs.declared.ask.Event.{Event}
 use Rattle.line.specs.declared.reader.Said.the-variants.{Names}
 use Rattle.line.specs.declared.reader.Line.{Line}
 use Rattle.line.proofs.DigitLaws.{from-here}
@@ -67,12 +68,12 @@ unfoldable pub answered : Event → ℕ → List ℕ → ℕ → Option (List �
 answered e few vs n none = badLine
 answered e few vs n (some ns) = pick (leb few (n + length ns)) (record { said = Names e; numbers = sets vs n ns; count = n + length ns }) badLine
 
-pub answered-start : (e : Event) (few : ℕ) (m : Option (List ℕ)) → answered e few (replicate 20 0) 0 m ≡ lineOf (counted e few m)
+pub answered-start : (e : Event) (few : ℕ) (m : Option (List ℕ)) → answered e few (replicate mostNumbers 0) 0 m ≡ lineOf (counted e few m)
 unfolding answered counted lineOf pick
 answered-start e few none = refl
 answered-start e few (some ns) = rw zero-add (choice (leb few (length ns)))
   where
-    choice : (t : Bool) → pick t (record { said = Names e; numbers = sets (replicate 20 0) 0 ns; count = length ns }) badLine ≡ lineOf (pick t (good e ns) bad)
+    choice : (t : Bool) → pick t (record { said = Names e; numbers = sets (replicate mostNumbers 0) 0 ns; count = length ns }) badLine ≡ lineOf (pick t (good e ns) bad)
     choice true = refl
     choice false = refl
 

@@ -14,16 +14,17 @@ use lib.Seq.{sets, sets-eq, take-length, take-append-seam, take-at, drop-append-
 use borrow.Author.Tests.{le-leb, leb-true}
 use Rattle.loops.proofs.BoolLaws.{decided, le-or-lt, pick-true, pick-false}
 use Rattle.line.specs.Number.{decimal, digitRun, valueFrom, isNumber, mostNumber, Spells}
-use Rattle.line.specs.Grammar.{letter, least, most, mostBytes, lineFor, wordSized, InGrammar}
-use Rattle.line.specs.Reading.{Reading, bad, good, eventOf, numbersIn, counted, named, headed, reading, mostNumbers, lineOf}
+use Rattle.line.specs.Grammar.{letter, least, most, mostBytes, mostNumbers, lineFor, wordSized, InGrammar}
+use Rattle.line.specs.Reading.{Reading, bad, good, eventOf, numbersIn, counted, named, headed, reading, lineOf}
 use Rattle.line.specs.Printing.{Room, Wrote}
-use Rattle.paper.specs.declared.request.Event.{Event}
-use Rattle.paper.specs.declared.request.Event.the-variants.{Setup, Read, Write, Tick, Take, Refresh}
+use Rattle.request.specs.declared.ask.Event.{Event}
+use Rattle.request.specs.declared.ask.Event.the-variants as event
 use Rattle.line.specs.declared.reader.Said.the-variants.{Names}
 use Rattle.line.proofs.NumberLaws.{number-parts}
 use Rattle.line.proofs.LineLaws.{reading-long, reading-short, reading-event}
 use Rattle.line.proofs.SpellingLaws.{decimal-run, decimal-value, decimal-is-number}
 use Rattle.line.proofs.OneSpelling.{number-is-decimal}
+use Rattle.line.proofs.PrintLaws.{spaced-least}
 use Rattle.line.proofs.GrammarLaws.{numbers-printed, numbers-read, event-back}
 
 -- ---- numbers
@@ -139,6 +140,14 @@ read-printed e ns p q r l = says-read (lineFor e ns) e ns (record { bytes = refl
 pub printed-read : (s : List ℕ) (e : Event) (ns : List ℕ) → reading s ≡ good e ns → s ≡ lineFor e ns
 printed-read s e ns h = read-says s e ns h .bytes
 
+-- a line of a list takes as many bearings as its bytes hold: only the bytes are counted
+pub any-count : (s ns : List ℕ) → s ≡ lineFor event.List ns → 1 ≤ length ns → wordSized ns ≡ true → length s ≤ mostBytes → InGrammar s event.List ns
+unfolding lineFor
+any-count s ns e p r l =
+    let bytes = spaced-least ns in
+    let same = ap length e in
+    record { bytes = e; enough = p; not-over = omega arith; in-range = r; short = l }
+
 -- ---- the struct that the reader hands back
 
 -- the first numbers stored are the reading's
@@ -158,12 +167,13 @@ stored-part ns k h l =
 
 -- no event takes more numbers than there is room for
 pub most-fits : (e : Event) → most e ≤ mostNumbers
-most-fits Setup = omega arith
-most-fits Read = omega arith
-most-fits Write = omega arith
-most-fits Tick = omega arith
-most-fits Take = omega arith
-most-fits Refresh = omega arith
+most-fits event.Setup = omega arith
+most-fits event.Read = omega arith
+most-fits event.Write = omega arith
+most-fits event.Tick = omega arith
+most-fits event.Take = omega arith
+most-fits event.Refresh = omega arith
+most-fits event.List = omega arith
 
 line-says : (s : List ℕ) (e : Event) (r : Reading) → reading s ≡ r → lineOf r .said ≡ Names e → InGrammar s e (take (lineOf r .count) (lineOf r .numbers))
 unfolding lineOf

@@ -12,13 +12,19 @@ use Rattle.line.specs.Grammar.{spaceByte, spaced}
 abbrev pub numberAnswer : ℕ → List ℕ
 numberAnswer n = decimal n
 
--- 0 value diameter width v0 .. v(D-1)
-abbrev pub valueAnswer : Payload → List ℕ → List ℕ
-valueAnswer p vector = zeroByte ∷ (spaced (p .value ∷ p .diameter ∷ p .width ∷ []) ++ spaced vector)
+-- what is told of a bearing: value diameter width v0 .. v(D-1), or - v0 .. v(D-1) where it is unwritten, each after a space
+abbrev pub valueTold : Payload → List ℕ → List ℕ
+valueTold p vector = spaced (p .value ∷ p .diameter ∷ p .width ∷ []) ++ spaced vector
 
--- 0 - v0 .. v(D-1)
+abbrev pub unwrittenTold : List ℕ → List ℕ
+unwrittenTold vector = spaceByte ∷ (45 ∷ spaced vector)
+
+-- a read: 0, and what is told of its bearing
+abbrev pub valueAnswer : Payload → List ℕ → List ℕ
+valueAnswer p vector = zeroByte ∷ valueTold p vector
+
 abbrev pub unwrittenAnswer : List ℕ → List ℕ
-unwrittenAnswer vector = zeroByte ∷ (spaceByte ∷ (45 ∷ spaced vector))
+unwrittenAnswer vector = zeroByte ∷ unwrittenTold vector
 
 -- C for current, S for superseded
 abbrev pub standing : Bool → ℕ

@@ -7,41 +7,48 @@ use mathlib.Core.Bool.{Bool, true, _&&_}
 use lib.Dec.{leb}
 use lib.ListN.{length}
 use Rattle.line.specs.Number.{decimal, mostNumber}
-use Rattle.paper.specs.declared.request.Event.{Event}
-use Rattle.paper.specs.declared.request.Event.the-variants.{Setup, Read, Write, Tick, Take, Refresh}
+use Rattle.request.specs.declared.ask.Event.{Event}
+use Rattle.request.specs.declared.ask.Event.the-variants as event
 
--- the letter of an event: S R W K T F
+-- the letter of an event: S R W K T F L
 abbrev pub letter : Event → ℕ
-letter Setup = 83
-letter Read = 82
-letter Write = 87
-letter Tick = 75
-letter Take = 84
-letter Refresh = 70
+letter event.Setup = 83
+letter event.Read = 82
+letter event.Write = 87
+letter event.Tick = 75
+letter event.Take = 84
+letter event.Refresh = 70
+letter event.List = 76
 
 -- how many numbers an event takes, at least. In their order they are
 --   S the four counts, then the homes · R crew, bearing · W crew, bearing, value, bits of diameter, bits of width
---   K depot, shelf · T at depot, shelf, from depot · F depot, shelf
+--   K depot, shelf · T at depot, shelf, from depot · F depot, shelf · L crew, then the bearings
 abbrev pub least : Event → ℕ
-least Setup = 4
-least Read = 2
-least Write = 5
-least Tick = 2
-least Take = 3
-least Refresh = 2
-
--- and at most: S 4 to 20, the others one count each
-abbrev pub most : Event → ℕ
-most Setup = 20
-most Read = 2
-most Write = 5
-most Tick = 2
-most Take = 3
-most Refresh = 2
+least event.Setup = 4
+least event.Read = 2
+least event.Write = 5
+least event.Tick = 2
+least event.Take = 3
+least event.Refresh = 2
+least event.List = 1
 
 -- a line has at most 120 bytes, its line feed not counted
 abbrev pub mostBytes : ℕ
 mostBytes = 120
+
+-- no line has more numbers: each number takes two bytes at least, after the letter's one
+abbrev pub mostNumbers : ℕ
+mostNumbers = 59
+
+-- and at most: S 4 to 20, L as many as a line has, the others one count each
+abbrev pub most : Event → ℕ
+most event.Setup = 20
+most event.Read = 2
+most event.Write = 5
+most event.Tick = 2
+most event.Take = 3
+most event.Refresh = 2
+most event.List = mostNumbers
 
 -- the byte that stands before each number
 abbrev pub spaceByte : ℕ

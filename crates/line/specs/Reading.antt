@@ -9,9 +9,9 @@ use lib.ListN.{length, drop, replicate}
 use lib.Seq.{sets}
 use Rattle.loops.specs.Loops.{pick}
 use Rattle.line.specs.Number.{digitRun, valueFrom, isNumber}
-use Rattle.line.specs.Grammar.{letter, least, most, mostBytes, spaceByte}
-use Rattle.paper.specs.declared.request.Event.{Event}
-use Rattle.paper.specs.declared.request.Event.the-variants.{Setup, Read, Write, Tick, Take, Refresh}
+use Rattle.line.specs.Grammar.{letter, least, most, mostBytes, mostNumbers, spaceByte}
+use Rattle.request.specs.declared.ask.Event.{Event}
+use Rattle.request.specs.declared.ask.Event.the-variants as event
 use Rattle.line.specs.declared.reader.Said.the-variants.{BadLine, Names}
 use Rattle.line.specs.declared.reader.Line.{Line}
 
@@ -23,10 +23,12 @@ pub data Reading : Type 0 where
 -- the event that a letter names
 unfoldable pub eventOf : ℕ → Option Event
 eventOf b =
-    pick (eqb b (letter Setup)) (some Setup)
-    (pick (eqb b (letter Read)) (some Read)
-    (pick (eqb b (letter Write)) (some Write)
-    (pick (eqb b (letter Tick)) (some Tick) (pick (eqb b (letter Take)) (some Take) (pick (eqb b (letter Refresh)) (some Refresh) none)))))
+    pick (eqb b (letter event.Setup)) (some event.Setup)
+    (pick (eqb b (letter event.Read)) (some event.Read)
+    (pick (eqb b (letter event.Write)) (some event.Write)
+    (pick (eqb b (letter event.Tick)) (some event.Tick)
+    (pick (eqb b (letter event.Take)) (some event.Take)
+    (pick (eqb b (letter event.Refresh)) (some event.Refresh) (pick (eqb b (letter event.List)) (some event.List) none))))))
 
 -- n before the numbers that follow
 unfoldable pub before : ℕ → Option (List ℕ) → Option (List ℕ)
@@ -58,10 +60,6 @@ headed (b ∷ l) = named (eventOf b) l
 -- what a line says: one over 120 bytes is bad
 unfoldable pub reading : List ℕ → Reading
 reading s = pick (leb (length s) mostBytes) (headed s) bad
-
--- how many numbers there is room for
-abbrev pub mostNumbers : ℕ
-mostNumbers = 20
 
 -- the struct that the reader hands back for a bad line; room that is not used is 0
 abbrev pub badLine : Line

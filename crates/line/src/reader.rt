@@ -1,16 +1,17 @@
 // The line reader: the first byte names the event, and its numbers follow, each after exactly one space.
 use crate::digits::Number;
 use crate::digits::read_number;
-use paper::request::Event;
+use request::ask::Event;
 ghost use mathlib.Core.Path.{_≡_};
 ghost use Prim.Native.Nat.{_≤_};
 ghost use lib.ListN.{drop};
-ghost use Rattle.line.specs.Reading.{mostNumbers, numbersIn, counted, reading, badLine, lineOf};
+ghost use Rattle.line.specs.Grammar.{mostNumbers};
+ghost use Rattle.line.specs.Reading.{numbersIn, counted, reading, badLine, lineOf};
 
-// The most bytes that a line has, its line feed not counted, and the most numbers.
+// The most bytes that a line has, its line feed not counted, and the most numbers that it holds: each takes two bytes at least, after the letter's one.
 pub const MOST_BYTES: usize = 120;
 
-pub const MOST_NUMBERS: usize = 20;
+pub const MOST_NUMBERS: usize = 59;
 
 // Whether a line is bad, or the event that it names.
 pub enum Said {
@@ -86,6 +87,7 @@ pub fn read_line(s: &[u8]) -> Line
         b'K' => read_numbers(s, Event::Tick, 2, 2),
         b'T' => read_numbers(s, Event::Take, 3, 3),
         b'F' => read_numbers(s, Event::Refresh, 2, 2),
+        b'L' => read_numbers(s, Event::List, 1, MOST_NUMBERS),
         _ => bad_line(),
     }
 }

@@ -15,9 +15,7 @@ use Rattle.paper.specs.declared.answer.Finding.{Finding}
 use Rattle.paper.specs.declared.answer.ReadAnswer.{ReadAnswer}
 use Rattle.paper.specs.declared.answer.WriteAnswer.{WriteAnswer}
 use Rattle.paper.specs.declared.answer.ListAnswer.{ListAnswer}
-use Rattle.paper.specs.declared.answer.Outcome.{Outcome}
-use Rattle.paper.specs.declared.answer.Reply.{Reply}
-use Rattle.paper.specs.Answers.{numberOf, paper, paperFound, paperRead, paperWrite, paperListed, paperList, paperOutcome, onPaper, entriesIn, padded, Holds, tellings, depotsTold, pageWords, HoldsAll}
+use Rattle.paper.specs.Answers.{numberOf, paper, paperFound, paperRead, paperWrite, paperListed, paperList, entriesIn, padded, Holds, tellings, depotsTold, pageWords, HoldsAll}
 
 -- ---- refusals
 
@@ -26,10 +24,10 @@ numbered : List Refusal → ℕ → Refusal
 numbered [] n = BadBook
 numbered (r ∷ rs) n = pick (eqb (numberOf r) n) r (numbered rs n)
 
-refusalAt : ℕ → Refusal
+pub refusalAt : ℕ → Refusal
 refusalAt = numbered (BadBook ∷ BadDepot ∷ BadShelf ∷ BadKey ∷ BadCrew ∷ SameDepot ∷ EmptyLink ∷ Wait ∷ LinkFull ∷ ClockAtEnd ∷ BadCounts ∷ NotHereYet ∷ BadDate ∷ BadCard ∷ BadList ∷ [])
 
-refusal-back : (r : Refusal) → refusalAt (numberOf r) ≡ r
+pub refusal-back : (r : Refusal) → refusalAt (numberOf r) ≡ r
 unfolding numberOf refusalAt numbered pick
 refusal-back BadBook = refl
 refusal-back BadDepot = refl
@@ -51,63 +49,35 @@ refusal-back BadList = refl
 pub number-settles : (r r′ : Refusal) → numberOf r ≡ numberOf r′ → r ≡ r′
 number-settles r r′ e = sym (refusal-back r) ∙ ap refusalAt e ∙ refusal-back r′
 
--- ---- outcomes
+-- ---- the answer of each call
 
-outcomeAt : Answer → Outcome
-outcomeAt (refused n) = Outcome.Refused (refusalAt n)
-outcomeAt done = Outcome.Done
-outcomeAt (reads (read-value v u)) = Outcome.Value v
-outcomeAt (reads (read-unwritten u)) = Outcome.Unwritten
-outcomeAt (current stamp) = Outcome.Current stamp
-outcomeAt (superseded stamp) = Outcome.Superseded stamp
-outcomeAt (listed told) = Outcome.Done
+plainAt : Answer → plain.Answer
+plainAt (refused n) = plain.Answer.Refused (refusalAt n)
+plainAt done = plain.Answer.Done
+plainAt (reads t) = plain.Answer.Done
+plainAt (current stamp) = plain.Answer.Done
+plainAt (superseded stamp) = plain.Answer.Done
+plainAt (listed told) = plain.Answer.Done
 
-outcome-back : (o : Outcome) (u : List ℕ) → outcomeAt (paperOutcome o u) ≡ o
-unfolding paperOutcome outcomeAt
-outcome-back Outcome.Done u = refl
-outcome-back (Outcome.Value v) u = refl
-outcome-back Outcome.Unwritten u = refl
-outcome-back (Outcome.Current stamp) u = refl
-outcome-back (Outcome.Superseded stamp) u = refl
-outcome-back (Outcome.Refused r) u = ap Outcome.Refused (refusal-back r)
-
-pub reply-settles :
-    (a b : Reply) → onPaper a ≡ onPaper b → Holds (onPaper a) (a .vector) (a .depots) → Holds (onPaper b) (b .vector) (b .depots) → a ≡ b
-unfolding onPaper
-reply-settles a b e h k =
-    let o = sym (outcome-back (a .outcome) _) ∙ ap outcomeAt e ∙ outcome-back (b .outcome) _ in
-    let v = h .vector ∙ ap (λ (x : Answer). padded (entriesIn x)) e ∙ sym (k .vector) in
-    let n = h .count ∙ ap (λ (x : Answer). length (entriesIn x)) e ∙ sym (k .count) in
-    λ i. record { outcome = o i; vector = v i; depots = n i }
-
--- ---- the answer of each call is its outcome
-
-plainAt : Outcome → plain.Answer
-plainAt Outcome.Done = plain.Answer.Done
-plainAt (Outcome.Value v) = plain.Answer.Done
-plainAt Outcome.Unwritten = plain.Answer.Done
-plainAt (Outcome.Current stamp) = plain.Answer.Done
-plainAt (Outcome.Superseded stamp) = plain.Answer.Done
-plainAt (Outcome.Refused r) = plain.Answer.Refused r
-
-plain-back : (a : plain.Answer) → plainAt (outcomeAt (paper a)) ≡ a
-unfolding paper outcomeAt plainAt
+plain-back : (a : plain.Answer) → plainAt (paper a) ≡ a
+unfolding paper plainAt
 plain-back plain.Answer.Done = refl
 plain-back (plain.Answer.Refused r) = ap plain.Answer.Refused (refusal-back r)
 
 pub plain-settles : (a b : plain.Answer) → paper a ≡ paper b → a ≡ b
-plain-settles a b e = sym (plain-back a) ∙ ap (λ (x : Answer). plainAt (outcomeAt x)) e ∙ plain-back b
+plain-settles a b e = sym (plain-back a) ∙ ap plainAt e ∙ plain-back b
 
-findingAt : Outcome → Finding
-findingAt Outcome.Done = Finding.Unwritten
-findingAt (Outcome.Value v) = Finding.Value v
-findingAt Outcome.Unwritten = Finding.Unwritten
-findingAt (Outcome.Current stamp) = Finding.Unwritten
-findingAt (Outcome.Superseded stamp) = Finding.Unwritten
-findingAt (Outcome.Refused r) = Finding.Refused r
+findingAt : Answer → Finding
+findingAt (refused n) = Finding.Refused (refusalAt n)
+findingAt done = Finding.Unwritten
+findingAt (reads (read-value v u)) = Finding.Value v
+findingAt (reads (read-unwritten u)) = Finding.Unwritten
+findingAt (current stamp) = Finding.Unwritten
+findingAt (superseded stamp) = Finding.Unwritten
+findingAt (listed told) = Finding.Unwritten
 
-finding-back : (f : Finding) (u : List ℕ) → findingAt (outcomeAt (paperFound f u)) ≡ f
-unfolding paperFound outcomeAt findingAt
+finding-back : (f : Finding) (u : List ℕ) → findingAt (paperFound f u) ≡ f
+unfolding paperFound findingAt
 finding-back (Finding.Value v) u = refl
 finding-back Finding.Unwritten u = refl
 finding-back (Finding.Refused r) u = ap Finding.Refused (refusal-back r)
@@ -116,37 +86,37 @@ pub read-settles :
     (a b : ReadAnswer) → paperRead a ≡ paperRead b → Holds (paperRead a) (a .vector) (a .depots) → Holds (paperRead b) (b .vector) (b .depots) → a ≡ b
 unfolding paperRead
 read-settles a b e h k =
-    let f = sym (finding-back (a .finding) _) ∙ ap (λ (x : Answer). findingAt (outcomeAt x)) e ∙ finding-back (b .finding) _ in
+    let f = sym (finding-back (a .finding) _) ∙ ap findingAt e ∙ finding-back (b .finding) _ in
     let v = h .vector ∙ ap (λ (x : Answer). padded (entriesIn x)) e ∙ sym (k .vector) in
     let n = h .count ∙ ap (λ (x : Answer). length (entriesIn x)) e ∙ sym (k .count) in
     λ i. record { finding = f i; vector = v i; depots = n i }
 
-writtenAt : Outcome → WriteAnswer
-writtenAt Outcome.Done = WriteAnswer.Current 0
-writtenAt (Outcome.Value v) = WriteAnswer.Current 0
-writtenAt Outcome.Unwritten = WriteAnswer.Current 0
-writtenAt (Outcome.Current stamp) = WriteAnswer.Current stamp
-writtenAt (Outcome.Superseded stamp) = WriteAnswer.Superseded stamp
-writtenAt (Outcome.Refused r) = WriteAnswer.Refused r
+writtenAt : Answer → WriteAnswer
+writtenAt (refused n) = WriteAnswer.Refused (refusalAt n)
+writtenAt done = WriteAnswer.Current 0
+writtenAt (reads t) = WriteAnswer.Current 0
+writtenAt (current stamp) = WriteAnswer.Current stamp
+writtenAt (superseded stamp) = WriteAnswer.Superseded stamp
+writtenAt (listed told) = WriteAnswer.Current 0
 
-written-back : (a : WriteAnswer) → writtenAt (outcomeAt (paperWrite a)) ≡ a
-unfolding paperWrite outcomeAt writtenAt
+written-back : (a : WriteAnswer) → writtenAt (paperWrite a) ≡ a
+unfolding paperWrite writtenAt
 written-back (WriteAnswer.Current stamp) = refl
 written-back (WriteAnswer.Superseded stamp) = refl
 written-back (WriteAnswer.Refused r) = ap WriteAnswer.Refused (refusal-back r)
 
 pub written-settles : (a b : WriteAnswer) → paperWrite a ≡ paperWrite b → a ≡ b
-written-settles a b e = sym (written-back a) ∙ ap (λ (x : Answer). writtenAt (outcomeAt x)) e ∙ written-back b
+written-settles a b e = sym (written-back a) ∙ ap writtenAt e ∙ written-back b
 
-listed-back : (a : plain.Answer) (ts : List Told) → plainAt (outcomeAt (paperListed a ts)) ≡ a
-unfolding paperListed outcomeAt plainAt
+listed-back : (a : plain.Answer) (ts : List Told) → plainAt (paperListed a ts) ≡ a
+unfolding paperListed plainAt
 listed-back plain.Answer.Done ts = refl
 listed-back (plain.Answer.Refused r) ts = ap plain.Answer.Refused (refusal-back r)
 
 pub list-settles : (a b : ListAnswer) → paperList a ≡ paperList b → HoldsAll (paperList a) a → HoldsAll (paperList b) b → a ≡ b
 unfolding paperList
 list-settles a b e h k =
-    let o = sym (listed-back (a .outcome) _) ∙ ap (λ (x : Answer). plainAt (outcomeAt x)) e ∙ listed-back (b .outcome) _ in
+    let o = sym (listed-back (a .outcome) _) ∙ ap plainAt e ∙ listed-back (b .outcome) _ in
     let w = h .words ∙ ap (λ (x : Answer). pageWords 8 (tellings x)) e ∙ sym (k .words) in
     let m = h .bearings ∙ ap (λ (x : Answer). length (tellings x)) e ∙ sym (k .bearings) in
     let n = h .depots ∙ ap (λ (x : Answer). depotsTold (tellings x)) e ∙ sym (k .depots) in

@@ -14,8 +14,6 @@ use Rattle.paper.specs.declared.answer.Finding.{Finding}
 use Rattle.paper.specs.declared.answer.ReadAnswer.{ReadAnswer}
 use Rattle.paper.specs.declared.answer.WriteAnswer.{WriteAnswer}
 use Rattle.paper.specs.declared.answer.ListAnswer.{ListAnswer}
-use Rattle.paper.specs.declared.answer.Outcome.{Outcome}
-use Rattle.paper.specs.declared.answer.Reply.{Reply}
 use Rattle.paper.specs.Calls.{Told, read-value, read-unwritten, Answer, refused, done, reads, current, superseded, listed}
 
 -- the number of a refusal
@@ -76,19 +74,6 @@ paperListed (answer.Answer.Refused r) ts = refused (numberOf r)
 
 unfoldable pub paperList : ListAnswer → Answer
 paperList a = paperListed (a .outcome) (toldAll (a .depots) (a .bearings) (a .words))
-
--- what any request came to, with the entries u of its vector
-unfoldable pub paperOutcome : Outcome → List ℕ → Answer
-paperOutcome Outcome.Done u = done
-paperOutcome (Outcome.Value p) u = reads (read-value p u)
-paperOutcome Outcome.Unwritten u = reads (read-unwritten u)
-paperOutcome (Outcome.Current stamp) u = current stamp
-paperOutcome (Outcome.Superseded stamp) u = superseded stamp
-paperOutcome (Outcome.Refused r) u = refused (numberOf r)
-
--- the reply to any request
-unfoldable pub onPaper : Reply → Answer
-onPaper r = paperOutcome (r .outcome) (take (r .depots) (r .vector))
 
 -- ---- the room of a vector
 

@@ -25,6 +25,9 @@ pub enum Answer {
     Refused(Refusal),
 }
 
+// The last day that a value may name, 31 December 2399: the calendar's last day.
+pub const LAST_DAY: u32 = 146_096;
+
 // What is written of a bearing: the value, which is a day, and its card as two words, the bits of the outside diameter and of the width.
 pub struct Payload {
     pub value: u32,
@@ -60,21 +63,4 @@ pub struct ListAnswer {
     pub bearings: usize,
     pub depots: usize,
     pub words: [u32; 64],
-}
-
-// What any request comes to.
-pub enum Outcome {
-    Done,
-    Value(Payload),
-    Unwritten,
-    Current(u32),
-    Superseded(u32),
-    Refused(Refusal),
-}
-
-// The reply to any request. The vector beside it is a read's; of any other reply no entry counts, and all are 0.
-pub struct Reply {
-    pub outcome: Outcome,
-    pub vector: [u32; 4],
-    pub depots: usize,
 }

@@ -1,10 +1,9 @@
-// The paper's number of each refusal, and of the reply to any request.
-use crate::answer::Outcome;
+// The paper's number of each refusal, and of a call's answer.
+use crate::answer::Answer;
 use crate::answer::Refusal;
-use crate::answer::Reply;
 ghost use mathlib.Core.Path.{_≡_};
 ghost use Rattle.paper.specs.Calls.{numberIn};
-ghost use Rattle.paper.specs.Answers.{numberOf, onPaper};
+ghost use Rattle.paper.specs.Answers.{numberOf, paper};
 
 // The number of a refusal.
 pub fn number_of(r: Refusal) -> u32
@@ -29,17 +28,12 @@ pub fn number_of(r: Refusal) -> u32
     }
 }
 
-// The number of a reply: 0 is done.
-pub fn number_in(reply: Reply) -> u32
-    ensures { λ n. ⌜ n ≡ numberIn (onPaper reply) ⌝ }
+// The number of an answer: 0 is done.
+pub fn number_in(answer: Answer) -> u32
+    ensures { λ n. ⌜ n ≡ numberIn (paper answer) ⌝ }
 {
-    let outcome = reply.outcome;
-    match outcome {
-        Outcome::Done => 0,
-        Outcome::Value(_) => 0,
-        Outcome::Unwritten => 0,
-        Outcome::Current(_) => 0,
-        Outcome::Superseded(_) => 0,
-        Outcome::Refused(r) => number_of(r),
+    match answer {
+        Answer::Done => 0,
+        Answer::Refused(r) => number_of(r),
     }
 }

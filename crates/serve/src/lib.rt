@@ -5,6 +5,7 @@ use book::layout::BOOK_WORDS;
 use libc::STDERR_FILENO;
 use libc::STDIN_FILENO;
 use libc::STDOUT_FILENO;
+use reply::ANSWER_ROOM;
 use stream::answer_piece;
 ghost use mathlib.Core.Path.{_≡_};
 ghost use Prim.Native.Nat.{_+_, _*_, _≤_};
@@ -16,7 +17,7 @@ ghost use Rattle.stream.specs.Stream.{zeroBook, Holder, lineIn, linePiece, book
 const LINE_ROOM: usize = 122;
 
 // Room for an answer to each byte of a piece of the input, which has at most 4,096, and for one at its end.
-const OUT_ROOM: usize = 327760;
+const OUT_ROOM: usize = ANSWER_ROOM * 4097;
 
 // Writes the answers. Where they cannot be written, a line on standard error says so.
 fn write_answers(said: &[u8]) -> bool {

@@ -1,21 +1,20 @@
 // What a call tells in numbers: its number comes back, and what a read, a write or the grams tell stands in a buffer. A buffer that is too short is refused first of
 // all, before the book is looked at.
-use calls::reply::found;
-use calls::reply::wrote;
 use card::GramsAnswer;
 use card::grams;
-use paper::answer::Outcome;
+use paper::answer::Finding;
 use paper::answer::Payload;
-use paper::answer::Reply;
-use paper::number::number_in;
+use paper::answer::ReadAnswer;
+use paper::answer::WriteAnswer;
+use paper::number::number_of;
 use read::read;
 use room::NO_ROOM;
 use room::fill;
 use write::write;
 ghost use mathlib.Core.Path.{_≡_};
 ghost use Prim.Native.Nat.{_/_, _%_};
-ghost use Rattle.paper.specs.Calls.{read, write};
-ghost use Rattle.paper.specs.Answers.{onPaper, Holds};
+ghost use Rattle.paper.specs.Calls.{read, write, numberIn};
+ghost use Rattle.paper.specs.Answers.{paperRead, paperWrite, Holds};
 ghost use Rattle.upkeep.specs.Requests.{call, numberAt, replyTo, bookAfter};
 ghost use Rattle.card.specs.Card.{gramsAnswer, gramsNumber};
 ghost use Rattle.room.specs.Room.{noRoom, inRoom, filled};
@@ -30,23 +29,45 @@ const GRAMS_WORDS: usize = 2;
 
 const BAD_CARD: u32 = 14;
 
-// What a reply tells stands in `out`.
-fn tell(out: &mut [u32], reply: Reply)
-    requires { ⌜ Holds (onPaper reply) (reply .vector) (reply .depots) ⌝ }
-    ensures { λ r. ⌜ now (out .exit) ≡ filled (wordsOf (onPaper reply)) (now (out .entry)) ⌝ }
+// What the answer of a read tells stands in `out`, and its number comes back.
+fn tell_found(out: &mut [u32], answer: ReadAnswer) -> u32
+    requires { ⌜ Holds (paperRead answer) (answer .vector) (answer .depots) ⌝ }
+    ensures { λ r. ⌜ r ≡ numberIn (paperRead answer) ⌝ }
+    ensures { λ r. ⌜ now (out .exit) ≡ filled (wordsOf (paperRead answer)) (now (out .entry)) ⌝ }
 {
-    let outcome = reply.outcome;
-    let v = reply.vector;
-    match outcome {
-        Outcome::Value(p) => fill(
-            out,
-            &[1, p.value, p.diameter, p.width, v[0], v[1], v[2], v[3]],
-        ),
-        Outcome::Unwritten => fill(out, &[0, 0, 0, 0, v[0], v[1], v[2], v[3]]),
-        Outcome::Current(stamp) => fill(out, &[stamp, 1]),
-        Outcome::Superseded(stamp) => fill(out, &[stamp, 0]),
-        Outcome::Done => {}
-        Outcome::Refused(_) => {}
+    let finding = answer.finding;
+    let v = answer.vector;
+    match finding {
+        Finding::Value(p) => {
+            fill(
+                out,
+                &[1, p.value, p.diameter, p.width, v[0], v[1], v[2], v[3]],
+            );
+            0
+        }
+        Finding::Unwritten => {
+            fill(out, &[0, 0, 0, 0, v[0], v[1], v[2], v[3]]);
+            0
+        }
+        Finding::Refused(r) => number_of(r),
+    }
+}
+
+// The same of a write.
+fn tell_written(out: &mut [u32], answer: WriteAnswer) -> u32
+    ensures { λ r. ⌜ r ≡ numberIn (paperWrite answer) ⌝ }
+    ensures { λ r. ⌜ now (out .exit) ≡ filled (wordsOf (paperWrite answer)) (now (out .entry)) ⌝ }
+{
+    match answer {
+        WriteAnswer::Current(stamp) => {
+            fill(out, &[stamp, 1]);
+            0
+        }
+        WriteAnswer::Superseded(stamp) => {
+            fill(out, &[stamp, 0]);
+            0
+        }
+        WriteAnswer::Refused(r) => number_of(r),
     }
 }
 
@@ -60,9 +81,7 @@ pub fn tell_read(book: &mut [u32], crew: u32, bearing: u32, out: &mut [u32]) -> 
     if out.len() < READ_WORDS {
         return NO_ROOM;
     }
-    let reply = found(read(book, crew, bearing));
-    tell(out, reply);
-    number_in(reply)
+    tell_found(out, read(book, crew, bearing))
 }
 
 // The same of a write.
@@ -81,9 +100,7 @@ pub fn tell_write(
     if out.len() < WRITE_WORDS {
         return NO_ROOM;
     }
-    let reply = wrote(write(book, crew, bearing, payload));
-    tell(out, reply);
-    number_in(reply)
+    tell_written(out, write(book, crew, bearing, payload))
 }
 
 // The low and the high word of 64 bits.

@@ -11,10 +11,10 @@ use Rattle.serve.proofs.serve.Statement.{statement}
 use Rattle.serve.proofs.serve.Tie as tie
 
 -- each byte of a piece of n bytes has room for an answer, and so has its end
-room : {n : ℕ} → 4096 ≡ n → answerRoom * (n + 1) ≤ length {A = ℕ} (replicate 327760 0)
+room : {n : ℕ} → 4096 ≡ n → answerRoom * (n + 1) ≤ length {A = ℕ} (replicate (answerRoom * 4097) 0)
 room e =
-    subst (λ (n : ℕ). answerRoom * (n + 1) ≤ length {A = ℕ} (replicate 327760 0)) e
-    (subst (λ (m : ℕ). answerRoom * 4097 ≤ m) (sym (length-replicate {A = ℕ} 327760 0)) (lit≤ tt))
+    subst (λ (n : ℕ). answerRoom * (n + 1) ≤ length {A = ℕ} (replicate (answerRoom * 4097) 0)) e
+    (subst (λ (m : ℕ). answerRoom * 4097 ≤ m) (sym (length-replicate {A = ℕ} (answerRoom * 4097) 0)) (lit≤ tt))
 
 answer-all-requires : tie.Need-answer-all-requires
 answer-all-requires c κs = (served-start, room (c .before .before .before .before .buffer .ensures))
@@ -27,6 +27,6 @@ serve-spec =
     (λ c. search needs)
     (λ c. search needs)
     (λ c. search needs)
-    (λ c. search needs)
+    (λ c. sym (length-replicate {A = ℕ} (answerRoom * 4097) 0))
     answer-all-requires
     (λ c. search needs))

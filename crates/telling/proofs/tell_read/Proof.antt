@@ -1,18 +1,12 @@
--- `telling::tell_read` meets its contract: without room nothing is done; with it the promise of the read, and what is told of its reply.
+-- `telling::tell_read` meets its contract: without room nothing is done; with it the promise of the read, and what is told of its answer.
 -- Assumes nothing.
 use mathlib.Core.Path.{_∙_}
 use Rattle.upkeep.specs.Requests.{did-read}
-use Rattle.calls.proofs.ReplyLaws.{holds-as}
 use Rattle.room.proofs.RoomLaws.{with-room, no-room}
 use Rattle.telling.proofs.CallLaws.{by-call, told-by}
 use borrow.Author.Needs.{needs}
 use Rattle.telling.proofs.tell_read.Statement.{statement}
 use Rattle.telling.proofs.tell_read.Tie as tie
-
-tell-requires : tie.Need-tell-requires
-tell-requires c κs =
-    let reply = c .before .found .ensures in
-    holds-as (reply .0) (reply .1) (reply .2) (c .before .before .before .before .read .ensures .holds)
 
 returns : tie.Need-returns
 returns c =
@@ -21,11 +15,11 @@ returns c =
 
 returns-2 : tie.Need-returns-2
 returns-2 c =
-    let replied = c .before .before .before .before .before in
-    let wide = replied .before .before .before .before .before .if1 .left in
-    let promise = did-read (replied .before .before .before .read .ensures) in
-    let said = by-call promise (replied .found .ensures .0) (c .number-in .ensures) in
-    let told = told-by _ promise (replied .found .ensures .0) (c .before .before .before .tell .ensures) in
+    let called = c .before .before .before .before .before in
+    let wide = called .before .before .before .if1 .left in
+    let promise = did-read (called .read .ensures) in
+    let said = by-call promise (c .before .before .tell-found .ensures .0) in
+    let told = told-by _ promise (c .before .before .tell-found .ensures .1) in
     (said .0 ∙ with-room _ _ _ _ wide, (said .1 ∙ with-room _ _ _ _ wide, told ∙ with-room _ _ _ _ wide))
 
 pub tell-read-spec : {M : Type 1} → statement M
@@ -34,8 +28,6 @@ tell-read-spec =
     (tie.spec
     returns
     (λ c κs. search needs)
-    (λ c κs. search needs)
-    tell-requires
     (λ c κs. search needs)
     (λ c. search needs)
     (λ c. search needs)

@@ -1,4 +1,4 @@
--- `telling::tell_write` meets its contract: without room nothing is done; with it the promise of the write, and what is told of its reply.
+-- `telling::tell_write` meets its contract: without room nothing is done; with it the promise of the write, and what is told of its answer.
 -- Assumes nothing.
 use mathlib.Core.Path.{_∙_}
 use Rattle.upkeep.specs.Requests.{did-write}
@@ -15,11 +15,11 @@ returns c =
 
 returns-2 : tie.Need-returns-2
 returns-2 c =
-    let replied = c .before .before .before .before .before in
-    let wide = replied .before .before .before .before .before .if1 .left in
-    let promise = did-write (replied .before .before .before .write .ensures) in
-    let said = by-call promise (replied .wrote .ensures .0) (c .number-in .ensures) in
-    let told = told-by _ promise (replied .wrote .ensures .0) (c .before .before .before .tell .ensures) in
+    let called = c .before .before .before .before .before in
+    let wide = called .before .before .before .if1 .left in
+    let promise = did-write (called .write .ensures) in
+    let said = by-call promise (c .before .before .tell-written .ensures .0) in
+    let told = told-by _ promise (c .before .before .tell-written .ensures .1) in
     (said .0 ∙ with-room _ _ _ _ wide, (said .1 ∙ with-room _ _ _ _ wide, told ∙ with-room _ _ _ _ wide))
 
 pub tell-write-spec : {M : Type 1} → statement M
@@ -27,8 +27,6 @@ tell-write-spec =
     tie.close
     (tie.spec
     returns
-    (λ c κs. search needs)
-    (λ c κs. search needs)
     (λ c κs. search needs)
     (λ c κs. search needs)
     (λ c. search needs)

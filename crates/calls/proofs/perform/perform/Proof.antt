@@ -1,7 +1,7 @@
 -- `calls::perform::perform` meets its contract: the promise of the call that the request names settles reply and book.
 -- Assumes nothing.
-use Rattle.upkeep.specs.Requests.{set-up, did-read, did-write, ticked, took, refreshed, moved}
-use Rattle.calls.proofs.ReplyLaws.{holds-as, performed}
+use Rattle.upkeep.specs.Requests.{set-up, did-read, did-write, ticked, took, refreshed, moved, did-list}
+use Rattle.calls.proofs.ReplyLaws.{performed}
 use borrow.Author.Needs.{needs}
 use Rattle.calls.proofs.perform.perform.Statement.{statement}
 use Rattle.calls.proofs.perform.perform.Tie as tie
@@ -16,7 +16,7 @@ returns-2 : tie.Need-returns-2
 returns-2 c =
     let promise = c .before .before .before .read .ensures in
     let reply = c .found .ensures in
-    performed _ (c .before .before .before .before .before .before .request2 .given .1) (did-read promise) (reply .0) (holds-as (reply .0) (reply .1) (reply .2) (promise .holds))
+    performed _ (c .before .before .before .before .before .before .request2 .given .1) (did-read promise) (reply .0) (reply .1 (promise .holds))
 
 returns-3 : tie.Need-returns-3
 returns-3 c =
@@ -48,10 +48,19 @@ returns-7 c =
     let reply = c .answered5 .ensures in
     performed _ (c .before .before .before .before .before .before .request7 .given .1) (moved promise) (reply .0) (reply .1)
 
+returns-8 : tie.Need-returns-8
+returns-8 c =
+    let promise = c .before .before .before .list .ensures in
+    let reply = c .listed .ensures in
+    performed _ (c .before .before .before .before .before .before .request8 .given .1) (did-list promise) (reply .0) (reply .1 (promise .holds))
+
 pub perform-spec : {M : Type 1} → statement M
 perform-spec =
     tie.close
     (tie.spec
+    (λ c. search needs)
+    (λ c κs. search needs)
+    (λ c κs. search needs)
     (λ c. search needs)
     (λ c κs. search needs)
     (λ c κs. search needs)
@@ -86,4 +95,6 @@ perform-spec =
     (λ c. search needs)
     returns-6
     (λ c. search needs)
-    returns-7)
+    returns-7
+    (λ c. search needs)
+    returns-8)

@@ -1,7 +1,8 @@
 -- `calls::reply::answered` meets its contract: done, or the refusal.
 -- Assumes nothing.
 use mathlib.Core.Path.{sym, ap}
-use Rattle.paper.specs.Answers.{paper, paperOutcome}
+use Rattle.paper.specs.Answers.{paper}
+use Rattle.request.specs.Replies.{paperOutcome}
 use Rattle.calls.proofs.ReplyLaws.{bare-reply}
 use borrow.Author.Needs.{needs}
 use Rattle.calls.proofs.reply.answered.Statement.{statement}

@@ -1,7 +1,8 @@
 -- `calls::reply::wrote` meets its contract: the stamp and how the version stands, or the refusal.
 -- Assumes nothing.
 use mathlib.Core.Path.{sym, ap}
-use Rattle.paper.specs.Answers.{paperWrite, paperOutcome}
+use Rattle.paper.specs.Answers.{paperWrite}
+use Rattle.request.specs.Replies.{paperOutcome}
 use Rattle.calls.proofs.ReplyLaws.{bare-reply}
 use borrow.Author.Needs.{needs}
 use Rattle.calls.proofs.reply.wrote.Statement.{statement}

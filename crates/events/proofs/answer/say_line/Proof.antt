@@ -6,7 +6,7 @@ use Rattle.events.specs.Answering.{readingBook, readingSays}
 use Rattle.paper.specs.Calls.{refused}
 use Rattle.paper.specs.Answers.{entriesIn, tellings}
 use Rattle.reply.specs.Printed.{printed}
-use Rattle.reply.proofs.RoomLaws.{printed-room}
+use Rattle.reply.proofs.RoomLaws.{no-list, printed-room}
 use Rattle.line.proofs.Theorems.{says-read}
 use Rattle.events.proofs.SayLaws.{told-bad, told-event, told-count, told-room, told-part, answered-reading}
 use borrow.Author.Needs.{needs}
@@ -15,7 +15,7 @@ use Rattle.events.proofs.answer.say_line.Tie as tie
 
 answer-number-requires : tie.Need-answer-number-requires
 unfolding printed entriesIn tellings
-answer-number-requires c κs = printed-room (refused 13) (omega arith) (omega arith) (c .before .before .before .before .before .before .before .before .pre)
+answer-number-requires c κs = printed-room (refused 13) (no-list _ (omega arith) refl) (c .before .before .before .before .before .before .before .before .pre)
 
 array-share-prefix-numbers : tie.Need-array-share-prefix-numbers
 array-share-prefix-numbers c =

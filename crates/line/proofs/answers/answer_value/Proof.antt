@@ -1,34 +1,18 @@
--- `line::answers::answer_value` meets its contract: the 0, then the value and the card, each number after a space, then the vector.
+-- `line::answers::answer_value` meets its contract: the 0, then what is told of the bearing.
 -- Assumes nothing.
-use native.Mathlib.Omega.{arith}
-use denote.Ref.{now}
-use lib.ListN.{take}
 use borrow.Author.Needs.{needs}
-use mathlib.Core.List.{[], _∷_}
-use Rattle.line.specs.Grammar.{spaced}
-use Rattle.line.proofs.PrintLaws.{room-first, room-then, room-byte, wrote-then, wrote-after, wrote-length}
+use Rattle.line.proofs.PrintLaws.{room-byte, wrote-after, wrote-length}
 use Rattle.line.proofs.answers.answer_value.Statement.{statement}
 use Rattle.line.proofs.answers.answer_value.Tie as tie
 
-print-numbers-requires : tie.Need-print-numbers-requires
-print-numbers-requires c κs =
-    let start = c .before .before .before .before in
-    let p = start .args .payload in
-    let rest = spaced (take (start .args .depots) (now (start .args .vector))) in
-    (omega arith, room-first (spaced (p .value ∷ p .diameter ∷ p .width ∷ [])) rest (room-byte 48 (start .pre .1)))
-
-print-numbers-requires-2 : tie.Need-print-numbers-requires-2
-print-numbers-requires-2 c κs =
-    let start = c .before .before .before .before .before .before .before .before in
-    (start .pre .0, room-then _ (room-byte 48 (start .pre .1)) (c .before .before .before .print-numbers .ensures))
+print-value-requires : tie.Need-print-value-requires
+print-value-requires c κs = let start = c .before .before .before in (start .pre .0, room-byte 48 (start .pre .1))
 
 returns : tie.Need-returns
-returns c = wrote-after 48 (wrote-then (c .before .before .before .before .before .before .print-numbers .ensures) (c .before .before .print-numbers2 .ensures))
+returns c = wrote-after 48 (c .before .before .print-value .ensures)
 
 same-length : tie.Need-same-length
 same-length c = wrote-length (returns c)
 
 pub answer-value-spec : {M : Type 1} → statement M
-answer-value-spec =
-    tie.close
-    (tie.spec (λ c. search needs) (λ c. search needs) (λ c. search needs) print-numbers-requires print-numbers-requires-2 same-length returns)
+answer-value-spec = tie.close (tie.spec (λ c. search needs) (λ c. search needs) print-value-requires same-length returns)

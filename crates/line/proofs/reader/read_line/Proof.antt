@@ -1,4 +1,4 @@
--- `line::reader::read_line` meets its contract: one law serves the six letters.
+-- `line::reader::read_line` meets its contract: one law serves the seven letters.
 -- Assumes nothing.
 use Prim.Native.Nat.{ℕ, _≤_}
 use mathlib.Core.Path.{_≡_, sym, _∙_, ap}
@@ -7,8 +7,8 @@ use lib.ListN.{length, getD, drop}
 use borrow.Author.Needs.{needs}
 use Rattle.line.specs.Grammar.{letter, least, most}
 use Rattle.line.specs.Reading.{numbersIn, counted, reading, lineOf}
-use Rattle.paper.specs.declared.request.Event.{Event}
-use Rattle.paper.specs.declared.request.Event.the-variants.{Setup, Read, Write, Tick, Take, Refresh}
+use Rattle.request.specs.declared.ask.Event.{Event}
+use Rattle.request.specs.declared.ask.Event.the-variants as event
 use Rattle.line.specs.declared.reader.Line.{Line}
 use Rattle.line.proofs.LineLaws.{no-letter, reading-long, reading-empty, reading-event, reading-other}
 use Rattle.line.proofs.reader.read_line.Statement.{statement}
@@ -32,33 +32,36 @@ unfolding lineOf
 returns-2 c = c .bad-line2 .ensures ∙ ap lineOf (sym (reading-empty _ (c .before .if2 .taken)))
 
 returns-3 : tie.Need-returns-3
-returns-3 c = answer Setup _ (c .read-numbers .ensures) (c .before .before .before .before .if1 .left) (c .before .before .before .if2 .left) (c .before .match .keys1)
+returns-3 c = answer event.Setup _ (c .read-numbers .ensures) (c .before .before .before .before .if1 .left) (c .before .before .before .if2 .left) (c .before .match .keys1)
 
 returns-4 : tie.Need-returns-4
-returns-4 c = answer Read _ (c .read-numbers2 .ensures) (c .before .before .before .before .if1 .left) (c .before .before .before .if2 .left) (c .before .match .keys2)
+returns-4 c = answer event.Read _ (c .read-numbers2 .ensures) (c .before .before .before .before .if1 .left) (c .before .before .before .if2 .left) (c .before .match .keys2)
 
 returns-5 : tie.Need-returns-5
-returns-5 c = answer Write _ (c .read-numbers3 .ensures) (c .before .before .before .before .if1 .left) (c .before .before .before .if2 .left) (c .before .match .keys3)
+returns-5 c = answer event.Write _ (c .read-numbers3 .ensures) (c .before .before .before .before .if1 .left) (c .before .before .before .if2 .left) (c .before .match .keys3)
 
 returns-6 : tie.Need-returns-6
-returns-6 c = answer Tick _ (c .read-numbers4 .ensures) (c .before .before .before .before .if1 .left) (c .before .before .before .if2 .left) (c .before .match .keys4)
+returns-6 c = answer event.Tick _ (c .read-numbers4 .ensures) (c .before .before .before .before .if1 .left) (c .before .before .before .if2 .left) (c .before .match .keys4)
 
 returns-7 : tie.Need-returns-7
-returns-7 c = answer Take _ (c .read-numbers5 .ensures) (c .before .before .before .before .if1 .left) (c .before .before .before .if2 .left) (c .before .match .keys5)
+returns-7 c = answer event.Take _ (c .read-numbers5 .ensures) (c .before .before .before .before .if1 .left) (c .before .before .before .if2 .left) (c .before .match .keys5)
 
 returns-8 : tie.Need-returns-8
-returns-8 c = answer Refresh _ (c .read-numbers6 .ensures) (c .before .before .before .before .if1 .left) (c .before .before .before .if2 .left) (c .before .match .keys6)
+returns-8 c = answer event.Refresh _ (c .read-numbers6 .ensures) (c .before .before .before .before .if1 .left) (c .before .before .before .if2 .left) (c .before .match .keys6)
+
+returns-9 : tie.Need-returns-9
+returns-9 c = answer event.List _ (c .read-numbers7 .ensures) (c .before .before .before .before .if1 .left) (c .before .before .before .if2 .left) (c .before .match .keys7)
 
 -- any other first byte
-returns-9 : tie.Need-returns-9
+returns-10 : tie.Need-returns-10
 unfolding lineOf
-returns-9 c =
+returns-10 c =
     let other = c .before .match .rest in
     c .bad-line3 .ensures
     ∙ ap lineOf
     (sym
     (reading-other _ (c .before .before .before .before .if1 .left)
-    (no-letter _ (other .0 .0 .0 .0 .0 .1) (other .0 .0 .0 .0 .1) (other .0 .0 .0 .1) (other .0 .0 .1) (other .0 .1) (other .1))))
+    (no-letter _ (other .0 .0 .0 .0 .0 .0 .1) (other .0 .0 .0 .0 .0 .1) (other .0 .0 .0 .0 .1) (other .0 .0 .0 .1) (other .0 .0 .1) (other .0 .1) (other .1))))
 
 pub read-line-spec : {M : Type 1} → statement M
 read-line-spec =
@@ -76,10 +79,12 @@ read-line-spec =
     (λ c κs. search needs)
     (λ c κs. search needs)
     (λ c κs. search needs)
+    (λ c κs. search needs)
     returns-3
     returns-4
     returns-5
     returns-6
     returns-7
     returns-8
-    returns-9)
+    returns-9
+    returns-10)

@@ -1,0 +1,3 @@
+// What is asked of a register by its numbers, and one reply for whatever is asked.
+pub mod ask;
+pub mod reply;
