@@ -117,7 +117,7 @@ fn book(random: &mut Random, kind: usize) -> Vec<u32> {
     book
 }
 
-/// A call with numbers in range: a read, a write, a tick, a take, a refresh or a move.
+/// A call with numbers in range: a read, a write, a tick, a take, a refresh, a move or a list.
 fn event(random: &mut Random, n: Counts, kind: usize) -> Event {
     let below = |random: &mut Random, count: usize| random.below(count) as u32;
     let (crew, bearing) = (below(random, n.crews), below(random, n.bearings));
@@ -132,16 +132,17 @@ fn event(random: &mut Random, n: Counts, kind: usize) -> Event {
         2 => Event::Tick { depot, shelf },
         3 => Event::Take { depot, shelf, from },
         4 => Event::Refresh { depot, shelf },
-        _ => Event::Move { crew, depot },
+        5 => Event::Move { crew, depot },
+        _ => Event::List { crew, bearings: [bearing].into_iter().chain((0..2).map(|_| below(random, n.bearings))).collect() },
     }
 }
 
-/// For a book, each call once, done if there is one that can be; one with a number out of range, by the kind of the book; the
-/// writes of a day beyond the calendar and of no card; and a line.
+/// For a book, each call once, done if there is one that can be; one with a number out of range, and a list that is refused,
+/// by the kind of the book; the writes of a day beyond the calendar and of no card; and a line.
 fn calls(random: &mut Random, book: &[u32], kind: usize) -> Vec<Called> {
     let n = Counts::of(book);
     let done = |event: &Event| Step::new(event.clone()).run(&Straight, &mut book.to_vec()).number == 0;
-    let mut events: Vec<Event> = (0..6)
+    let mut events: Vec<Event> = (0..7)
         .map(|kind| {
             let mut found = event(random, n, kind);
             for _ in 0..200 {
@@ -161,11 +162,13 @@ fn calls(random: &mut Random, book: &[u32], kind: usize) -> Vec<Called> {
         2 => Event::Move { crew: 0, depot: n.depots as u32 },
         _ => Event::Tick { depot: 0, shelf: n.shelves as u32 },
     });
+    let bearings = [vec![0; 9], vec![0, n.bearings as u32], Vec::new()];
+    events.push(Event::List { crew: 0, bearings: bearings[kind % 3].clone() });
     if let Event::Write { crew, bearing, card, .. } = events[1] {
         events.push(Event::Write { crew, bearing, value: LAST_DAY + 1, card });
         events.push(Event::Write { crew, bearing, value: LAST_DAY, card: [card[0], 0] });
     }
-    let line = random.choose(&[0, 1, 2, 3, 4]);
+    let line = random.choose(&[0, 1, 2, 3, 4, 6]);
     let text = lines::text(&events[line]);
     let mut calls: Vec<Called> =
         events.iter().map(|event| Called { step: Step::new(event.clone()), event: event.clone() }).collect();
@@ -182,6 +185,7 @@ fn name(called: &Called) -> &'static str {
         Event::Take { .. } => "take",
         Event::Refresh { .. } => "refresh",
         Event::Move { .. } => "move",
+        Event::List { .. } => "list",
         Event::Fit => "is_fit",
         _ => "line",
     }
@@ -221,8 +225,9 @@ fn places(book: &[u32], event: &Event, done: bool) -> Places {
     }
     if let Some(named) = named.filter(|named| done && matches!(named.call, Call::Write | Call::Tick)) {
         for to in (0..n.depots).filter(|&to| to != named.depot) {
-            let link = link(named.shelf, named.depot, to);
-            places.writes[slot(link, book[held(link)] as usize)..][..SLOT].fill(true);
+            for link in named.shelves(n).map(|shelf| link(shelf, named.depot, to)) {
+                places.writes[slot(link, book[held(link)] as usize)..][..SLOT].fill(true);
+            }
         }
     }
     places
@@ -323,7 +328,7 @@ mod tests {
             for message in [(true, COPY), (false, COPY), (false, HEARTBEAT)] {
                 assert!(messages.contains(&message), "book {} has no message {:?}", kind, message);
             }
-            for called in calls(&mut random, &book, kind).iter().take(6) {
+            for called in calls(&mut random, &book, kind).iter().take(7) {
                 assert_eq!(called.step.run(&Straight, &mut book.clone()).number, 0, "book {}: {}", kind, called.step);
             }
         }

@@ -7,8 +7,9 @@ use straight::WORDS;
 
 /// The words of the buffer that the book is a part of, so that a book can also be too long.
 pub const BUFFER: usize = WORDS + 16;
-/// The most that a read or a write is lent for its answer.
-pub const MOST_OUT: usize = 10;
+/// The most that a list is lent for its answer, and the most that a read, a write or the grams are.
+pub const MOST_OUT: usize = 66;
+pub const MOST_ALONE: usize = 10;
 /// The most that a line is lent for its answer.
 pub const MOST_BYTES: usize = ANSWER_BYTES + 8;
 
@@ -53,6 +54,10 @@ pub enum Event {
         crew: u32,
         depot: u32,
     },
+    List {
+        crew: u32,
+        bearings: Vec<u32>,
+    },
     Fit,
     Greater {
         a: Vec<u32>,
@@ -92,7 +97,8 @@ impl Step {
     pub fn most_room(event: &Event) -> usize {
         match event {
             Event::Line(_) => MOST_BYTES,
-            Event::Read { .. } | Event::Write { .. } | Event::Grams { .. } => MOST_OUT,
+            Event::List { .. } => MOST_OUT,
+            Event::Read { .. } | Event::Write { .. } | Event::Grams { .. } => MOST_ALONE,
             _ => 0,
         }
     }
@@ -123,6 +129,7 @@ impl Step {
             Event::Take { depot, shelf, from } => register.take(book, *depot, *shelf, *from),
             Event::Refresh { depot, shelf } => register.refresh(book, *depot, *shelf),
             Event::Move { crew, depot } => register.move_crew(book, *crew, *depot),
+            Event::List { crew, bearings } => register.list(book, *crew, bearings, &mut out[..self.room]),
             Event::Fit => register.is_fit(book),
             Event::Greater { a, b, depots } => register.greater(a, b, *depots),
             Event::Grams { card } => register.grams(*card, &mut out[..self.room]),
@@ -163,6 +170,7 @@ impl fmt::Display for Step {
             Event::Take { depot, shelf, from } => write!(f, "take at depot {} shelf {} from depot {}", depot, shelf, from),
             Event::Refresh { depot, shelf } => write!(f, "refresh depot {} shelf {}", depot, shelf),
             Event::Move { crew, depot } => write!(f, "move crew {} to depot {}", crew, depot),
+            Event::List { crew, bearings } => write!(f, "list crew {} bearings {:?}", crew, bearings),
             Event::Fit => write!(f, "is the book fit"),
             Event::Greater { a, b, depots } => write!(f, "greater of {:?} and {:?}, {} depots", a, b, depots),
             Event::Grams { card } => write!(f, "grams of {:#x} {:#x}", card[0], card[1]),

@@ -4,10 +4,10 @@
 use std::collections::VecDeque;
 
 use crate::books::{counts, lay, setup, wrong_setup};
-use crate::event::{Event, Step, BUFFER, MOST_BYTES, MOST_OUT};
+use crate::event::{Event, Step, BUFFER, MOST_ALONE, MOST_BYTES, MOST_OUT};
 use crate::lines;
 use crate::random::Random;
-use crate::register::ANSWER_BYTES;
+use crate::register::{ANSWER_BYTES, LIST_WORDS};
 use crate::values;
 use straight::calendar::LAST_DAY;
 use straight::layout::*;
@@ -103,8 +103,9 @@ impl Generator {
         }
         if step.room > 0 && self.random.below(32) == 0 {
             step.room = match step.event {
-                Event::Line(_) => self.random.choose(&[0, 1, ANSWER_BYTES - 1, ANSWER_BYTES, ANSWER_BYTES + 1, MOST_BYTES]),
-                _ => self.random.below(MOST_OUT + 1),
+                Event::Line(_) => self.random.choose(&[0, 1, 80, ANSWER_BYTES - 1, ANSWER_BYTES, ANSWER_BYTES + 1, MOST_BYTES]),
+                Event::List { .. } => self.random.choose(&[0, 1, 8, LIST_WORDS - 1, LIST_WORDS, LIST_WORDS + 1, MOST_OUT]),
+                _ => self.random.below(MOST_ALONE + 1),
             };
         }
     }
@@ -163,10 +164,10 @@ impl Generator {
         let any = Counts { depots: 2, shelves: 2, bearings: 4, crews: 2 };
         let n = if counts_and_homes(book) { Counts::of(book) } else { any };
         let weights = match self.mood {
-            Mood::Writers | Mood::Ends => [10, 73, 15, 0, 0, 2],
-            Mood::Takers => [15, 0, 0, 65, 15, 5],
-            Mood::Hoard => [2, 45, 3, 49, 0, 1],
-            _ => [20, 25, 15, 25, 10, 5],
+            Mood::Writers | Mood::Ends => [8, 71, 15, 0, 0, 2, 4],
+            Mood::Takers => [10, 0, 0, 65, 15, 5, 5],
+            Mood::Hoard => [2, 45, 3, 48, 0, 1, 1],
+            _ => [14, 25, 15, 25, 10, 5, 6],
         };
         let (depot, shelf) = (self.random.below(n.depots) as u32, self.random.below(n.shelves) as u32);
         let mut at = self.random.below(100);
@@ -181,8 +182,16 @@ impl Generator {
             2 => Event::Tick { depot, shelf },
             3 => self.take(book, n),
             4 => Event::Refresh { depot, shelf },
-            _ => Event::Move { crew: self.random.below(n.crews) as u32, depot },
+            5 => Event::Move { crew: self.random.below(n.crews) as u32, depot },
+            _ => self.list(n),
         }
+    }
+
+    /// A list of one to eight bearings, some of them twice.
+    fn list(&mut self, n: Counts) -> Event {
+        let count = if self.random.percent(60) { self.random.between(1, 3) } else { self.random.between(1, 8) };
+        let bearings = (0..count).map(|_| self.bearing(n)).collect();
+        Event::List { crew: self.random.below(n.crews) as u32, bearings }
     }
 
     /// Few bearings are used much, so that versions meet.
@@ -291,6 +300,13 @@ impl Generator {
             Event::Move { crew, depot } => {
                 spoil(crew, n.crews);
                 spoil(depot, n.depots);
+            }
+            Event::List { crew, bearings } => {
+                spoil(crew, n.crews);
+                bearings.iter_mut().for_each(|bearing| spoil(bearing, n.bearings));
+                if random.percent(50) {
+                    bearings.resize(random.choose(&[0, 1, 8, 9, 9, 10, 57, 1_000]), 0);
+                }
             }
             Event::Take { depot, shelf, from } => {
                 spoil(depot, n.depots);

@@ -12,6 +12,7 @@ pub fn text(call: &Event) -> Vec<u8> {
         Event::Tick { depot, shelf } => ('K', vec![*depot, *shelf]),
         Event::Take { depot, shelf, from } => ('T', vec![*depot, *shelf, *from]),
         Event::Refresh { depot, shelf } => ('F', vec![*depot, *shelf]),
+        Event::List { crew, bearings } => ('L', std::iter::once(crew).chain(bearings).copied().collect()),
         _ => ('R', vec![0, 0]),
     };
     numbers.iter().fold(letter.to_string(), |line, number| format!("{} {}", line, number)).into_bytes()
@@ -47,8 +48,8 @@ pub fn damaged(random: &mut Random, call: &Event) -> Vec<u8> {
                 line.truncate(end);
             }
         }
-        11 => line[0] = random.choose(b"srwktfXL 0\n\r\0\xFF"),
-        12 => line.insert(1, random.choose(b"SRWKTF0\t\0")),
+        11 => line[0] = random.choose(b"srwktflXL 0\n\r\0\xFF"),
+        12 => line.insert(1, random.choose(b"SRWKTFL0\t\0")),
         13 => {
             let at = random.below(line.len());
             line[at] = random.bits() as u8;
@@ -68,7 +69,7 @@ pub fn damaged(random: &mut Random, call: &Event) -> Vec<u8> {
             let most = if random.below(200) == 0 { 40_000 } else { 300 };
             line = (0..random.below(most)).map(|_| random.bits() as u8).collect();
         }
-        _ => line = (0..random.below(40)).map(|_| random.choose(b"SRWKTF 0123456789")).collect(),
+        _ => line = (0..random.below(40)).map(|_| random.choose(b"SRWKTFL 0123456789")).collect(),
     }
     line
 }
@@ -86,9 +87,17 @@ fn last_number(line: &mut Vec<u8>, number: &str) {
     line.extend_from_slice(number.as_bytes());
 }
 
-/// A setup line of right form whose length is near 120.
+/// A line of right form whose length is near 120: a setup or a list.
 fn of_length(random: &mut Random) -> Vec<u8> {
     let length = random.between(118, 123);
+    if random.percent(50) {
+        let mut line = b"L 0 10".to_vec();
+        line.truncate(6 - length % 2);
+        while line.len() < length {
+            line.extend_from_slice(b" 0");
+        }
+        return line;
+    }
     let mut line = b"S 4 4 160 16".to_vec();
     for home in 0..16 {
         let left = length - line.len() - 2 * (15 - home);
@@ -98,8 +107,12 @@ fn of_length(random: &mut Random) -> Vec<u8> {
     line
 }
 
-/// A setup line with 0 to 24 numbers, which is seldom one that can be done.
+/// A setup line with 0 to 24 numbers, which is seldom one that can be done, or a list line with 0 to 58.
 fn many_numbers(random: &mut Random) -> Vec<u8> {
+    if random.percent(40) {
+        let count = random.choose(&[0, 1, 1, 2, 8, 9, 9, 10, 10, 20, 21, 57, 58]);
+        return (0..count).fold("L".to_string(), |line, _| format!("{} {}", line, random.below(3))).into_bytes();
+    }
     let count = random.choose(&[0, 1, 2, 3, 3, 3, 4, 4, 4, 5, 20, 21, 21, 21, 21, 22, 24]);
     let depots = random.between(1, 4);
     let counts = [depots, random.between(1, 4), random.between(1, 160), count.max(4) - 4];

@@ -14,11 +14,12 @@ pub enum Call {
     Take,
     Refresh,
     Move,
+    List,
 }
 
-pub const CALLS: [Call; 6] = [Call::Read, Call::Write, Call::Tick, Call::Take, Call::Refresh, Call::Move];
+pub const CALLS: [Call; 7] = [Call::Read, Call::Write, Call::Tick, Call::Take, Call::Refresh, Call::Move, Call::List];
 
-/// What a piece of the book is to a call on shelf s of depot d. Each piece is one of these.
+/// What a piece of the book is to a call on shelf s of depot d, for a list any shelf of d. Each piece is one of these.
 #[derive(Clone, Copy, Debug, PartialEq, Eq)]
 pub enum Part {
     /// The vector of the crew named, and those of the others.
@@ -49,7 +50,7 @@ pub enum Part {
     /// Of all other links.
     OtherHeads,
     OtherMessages,
-    /// The version stored at d of the bearing named; of the bearings of taken copies on links into (d, s); of those of untaken
+    /// The version stored at d of a bearing named; of the bearings of taken copies on links into (d, s); of those of untaken
     /// ones; of the other bearings.
     StoredNamed,
     StoredTaken,
@@ -97,16 +98,17 @@ pub fn looks(call: Call, part: Part) -> bool {
         Call::Take => matches!(part, SeenFrom | HeadsIn | UntakenIn),
         Call::Refresh => matches!(part, SeenHere | SeenBeside) || raise_and_show,
         Call::Move => matches!(part, CrewVector | SeenHere | SeenBeside),
-        Call::Read => read,
+        Call::Read | Call::List => read,
         Call::Write => read || tick,
     }
 }
 
-/// Whether a part means anything to a call: a tick names no crew.
+/// Whether a part means anything to a call: a tick names no crew, and to a list all shelves of its depot are here.
 pub fn means(call: Call, part: Part) -> bool {
     match part {
-        Part::CrewVector => matches!(call, Call::Read | Call::Write | Call::Move),
-        Part::StoredNamed => matches!(call, Call::Read | Call::Write),
+        Part::CrewVector => matches!(call, Call::Read | Call::Write | Call::Move | Call::List),
+        Part::StoredNamed => matches!(call, Call::Read | Call::Write | Call::List),
+        Part::SeenBeside => call != Call::List,
         Part::SeenFrom | Part::OtherHeadsIn | Part::OtherMessagesIn => call == Call::Take,
         _ => true,
     }
@@ -223,30 +225,31 @@ fn record_used(n: Counts, record: usize) -> Vec<usize> {
 pub struct Named {
     pub call: Call,
     pub depot: usize,
-    pub shelf: usize,
+    /// The shelf; a list is to all of them.
+    pub shelf: Option<usize>,
     pub crew: Option<usize>,
-    pub bearing: Option<usize>,
+    pub bearings: Vec<usize>,
     pub from: Option<usize>,
-    /// The bearings of the taken copies on the links into the shelf, and those of the untaken ones.
+    /// The bearings of the taken copies on the links into the shelf, or the shelves, and those of the untaken ones.
     pub taken: Vec<usize>,
     pub untaken: Vec<usize>,
 }
 
 impl Named {
     /// What an event names in a book whose counts and homes are fit. It names nothing if it is no call that looks at parts, if
-    /// a number is out of range, or if it is a take from the depot itself.
+    /// a number is out of range, if it is a take from the depot itself, or a list of none or of more than eight.
     pub fn of(book: &[u32], n: Counts, event: &Event) -> Option<Named> {
         let crew_call = |call, crew: u32, bearing: u32| {
             let (crew, bearing) = (crew as usize, bearing as usize);
             let in_range = crew < n.crews && bearing < n.bearings;
-            in_range.then(|| (call, book[home(crew)] as usize, bearing % n.shelves, Some(crew), Some(bearing), None))
+            in_range.then(|| (call, book[home(crew)] as usize, Some(bearing % n.shelves), Some(crew), vec![bearing], None))
         };
         let shelf_call = |call, depot: u32, shelf: u32, from: Option<u32>| {
             let (depot, shelf, from) = (depot as usize, shelf as usize, from.map(|from| from as usize));
             let in_range = depot < n.depots && shelf < n.shelves && from.map_or(true, |from| from < n.depots && from != depot);
-            in_range.then_some((call, depot, shelf, None, None, from))
+            in_range.then(|| (call, depot, Some(shelf), None, Vec::new(), from))
         };
-        let (call, depot, shelf, crew, bearing, from) = match *event {
+        let (call, depot, shelf, crew, bearings, from) = match *event {
             Event::Read { crew, bearing } => crew_call(Call::Read, crew, bearing),
             Event::Write { crew, bearing, .. } => crew_call(Call::Write, crew, bearing),
             Event::Tick { depot, shelf } => shelf_call(Call::Tick, depot, shelf, None),
@@ -255,26 +258,42 @@ impl Named {
             // A move is to all shelves of the new home; the first stands for them.
             Event::Move { crew, depot } => shelf_call(Call::Move, depot, 0, None)
                 .filter(|_| (crew as usize) < n.crews)
-                .map(|(call, depot, shelf, _, bearing, from)| (call, depot, shelf, Some(crew as usize), bearing, from)),
+                .map(|(call, depot, shelf, _, bearings, from)| (call, depot, shelf, Some(crew as usize), bearings, from)),
+            Event::List { crew, ref bearings } => {
+                let (crew, bearings) = (crew as usize, bearings.iter().map(|&bearing| bearing as usize).collect::<Vec<_>>());
+                let in_range = crew < n.crews && bearings.iter().all(|&bearing| bearing < n.bearings);
+                let named = in_range && (1..=straight::LONGEST_LIST).contains(&bearings.len());
+                named.then(|| (Call::List, book[home(crew)] as usize, None, Some(crew), bearings, None))
+            }
             _ => None,
         }?;
-        let (mut taken_ones, mut untaken_ones) = (Vec::new(), Vec::new());
-        for from in (0..n.depots).filter(|&from| from != depot) {
-            let link = link(shelf, from, depot);
+        let mut named = Named { call, depot, shelf, crew, bearings, from, taken: Vec::new(), untaken: Vec::new() };
+        for link in named.links_in(n) {
             for place in 0..messages_held(book, link) {
                 let message = slot(link, place);
-                let kind = if place < book[taken(link)] as usize { &mut taken_ones } else { &mut untaken_ones };
+                let kind = if place < book[taken(link)] as usize { &mut named.taken } else { &mut named.untaken };
                 if book[message] == COPY {
                     kind.push(book[message + 1 + BEARING] as usize);
                 }
             }
         }
-        Some(Named { call, depot, shelf, crew, bearing, from, taken: taken_ones, untaken: untaken_ones })
+        Some(named)
+    }
+
+    /// The shelves of the depot that the call is to.
+    pub fn shelves(&self, n: Counts) -> std::ops::Range<usize> {
+        self.shelf.map_or(0..n.shelves, |shelf| shelf..shelf + 1)
+    }
+
+    /// The links into these, from depot 0 on.
+    fn links_in(&self, n: Counts) -> Vec<usize> {
+        let from = |shelf| (0..n.depots).filter(|&from| from != self.depot).map(move |from| link(shelf, from, self.depot));
+        self.shelves(n).flat_map(from).collect()
     }
 
     /// What a piece is to this call.
     pub fn part(&self, piece: Piece) -> Part {
-        let here = |depot, shelf| depot == self.depot && shelf == self.shelf;
+        let here = |depot, shelf| depot == self.depot && self.on(shelf);
         let one = |is: bool, this: Part, other: Part| if is { this } else { other };
         match piece {
             Piece::CrewVector { crew } => one(self.crew == Some(crew), Part::CrewVector, Part::OtherCrews),
@@ -294,15 +313,20 @@ impl Named {
                 self.link(shelf, from, to, [Part::UntakenIn, Part::OtherMessagesIn, Part::MessagesOut, Part::OtherMessages])
             }
             Piece::Stored { depot, .. } if depot != self.depot => Part::StoredElsewhere,
-            Piece::Stored { bearing, .. } if self.bearing == Some(bearing) => Part::StoredNamed,
+            Piece::Stored { bearing, .. } if self.bearings.contains(&bearing) => Part::StoredNamed,
             Piece::Stored { bearing, .. } if self.taken.contains(&bearing) => Part::StoredTaken,
             Piece::Stored { bearing, .. } => one(self.untaken.contains(&bearing), Part::StoredUntaken, Part::StoredBeside),
         }
     }
 
+    /// Whether the call is to this shelf of its depot.
+    fn on(&self, shelf: usize) -> bool {
+        self.shelf.map_or(true, |named| named == shelf)
+    }
+
     /// The part that a link has: one in that is named, another in, one out, or any other.
     fn link(&self, shelf: usize, from: usize, to: usize, [named, other, out, any]: [Part; 4]) -> Part {
-        match (shelf == self.shelf, from == self.depot, to == self.depot) {
+        match (self.on(shelf), from == self.depot, to == self.depot) {
             (true, _, true) if self.from.map_or(true, |sender| sender == from) => named,
             (true, _, true) => other,
             (true, true, _) => out,

@@ -9,6 +9,7 @@ pub trait Register {
     fn take(&self, book: &mut [u32], depot: u32, shelf: u32, from: u32) -> u32;
     fn refresh(&self, book: &mut [u32], depot: u32, shelf: u32) -> u32;
     fn move_crew(&self, book: &mut [u32], crew: u32, depot: u32) -> u32;
+    fn list(&self, book: &mut [u32], crew: u32, bearings: &[u32], out: &mut [u32]) -> u32;
     fn is_fit(&self, book: &[u32]) -> u32;
     fn greater(&self, a: &[u32], b: &[u32], depots: u32) -> u32;
     fn grams(&self, card: [u32; 2], out: &mut [u32]) -> u32;
@@ -40,12 +41,27 @@ pub fn number(answer: Result<(), straight::Refusal>) -> u32 {
 
 /// The number of a read's answer, and the rest of it in `out`.
 pub fn read_answer(answer: Result<straight::Reading, straight::Refusal>, out: &mut [u32]) -> u32 {
-    number(answer.map(|reading| {
-        out[0] = reading.value.is_some() as u32;
-        out[1] = reading.value.unwrap_or(0);
-        out[2] = reading.diameter;
-        out[3] = reading.width;
-        out[4..8].copy_from_slice(&reading.vector);
+    number(answer.map(|reading| tell(&reading, out)))
+}
+
+/// What was read, in eight words.
+fn tell(reading: &straight::Reading, out: &mut [u32]) {
+    out[0] = reading.value.is_some() as u32;
+    out[1] = reading.value.unwrap_or(0);
+    out[2] = reading.diameter;
+    out[3] = reading.width;
+    out[4..8].copy_from_slice(&reading.vector);
+}
+
+/// The words that the answer to a list takes: eight for each of eight bearings.
+pub const LIST_WORDS: usize = 64;
+
+/// The number of a list's answer, and the rest of it in `out`: what was read of each bearing, and 0 behind it.
+pub fn list_answer(answer: Result<Vec<straight::Reading>, straight::Refusal>, out: &mut [u32]) -> u32 {
+    number(answer.map(|readings| {
+        let out = &mut out[..LIST_WORDS];
+        out.fill(0);
+        readings.iter().zip(out.chunks_mut(8)).for_each(|(reading, words)| tell(reading, words));
     }))
 }
 
@@ -94,6 +110,10 @@ impl Register for Straight {
 
     fn move_crew(&self, book: &mut [u32], crew: u32, depot: u32) -> u32 {
         number(straight::move_crew(book, crew, depot))
+    }
+
+    fn list(&self, book: &mut [u32], crew: u32, bearings: &[u32], out: &mut [u32]) -> u32 {
+        in_room(LIST_WORDS, out, |out| list_answer(straight::list(book, crew, bearings), out))
     }
 
     fn is_fit(&self, book: &[u32]) -> u32 {
@@ -151,6 +171,10 @@ impl Register for Library {
 
     fn move_crew(&self, book: &mut [u32], crew: u32, depot: u32) -> u32 {
         depot_register::raw::move_crew(book, crew, depot)
+    }
+
+    fn list(&self, book: &mut [u32], crew: u32, bearings: &[u32], out: &mut [u32]) -> u32 {
+        depot_register::raw::list(book, crew, bearings, out)
     }
 
     fn is_fit(&self, book: &[u32]) -> u32 {

@@ -116,7 +116,7 @@ impl Shrinking<'_> {
         }
     }
 
-    /// Takes away words of a laid book, bytes of a line, crews of a setup, and odd lengths.
+    /// Takes away words of a laid book, bytes of a line, crews of a setup, bearings of a list, and odd lengths.
     fn shorten(&mut self, at: usize) {
         let mut size = length(self.steps.get(at)) / 2 + 1;
         while size > 0 {
@@ -126,6 +126,7 @@ impl Shrinking<'_> {
                 match &mut steps[at].event {
                     Event::Lay(words) => drop(words.drain(from..(from + size).min(words.len()))),
                     Event::Line(text) => drop(text.drain(from..(from + size).min(text.len()))),
+                    Event::List { bearings, .. } => drop(bearings.drain(from..(from + size).min(bearings.len()))),
                     Event::Setup { counts, homes } => {
                         let as_many = counts[3] as usize == homes.len();
                         homes.drain(from..(from + size).min(homes.len()));
@@ -180,6 +181,7 @@ fn length(step: Option<&Step>) -> usize {
         Some(Event::Lay(words)) => words.len(),
         Some(Event::Line(text)) => text.len(),
         Some(Event::Setup { homes, .. }) => homes.len(),
+        Some(Event::List { bearings, .. }) => bearings.len(),
         _ => 0,
     }
 }
@@ -196,6 +198,7 @@ fn numbers(event: &mut Event) -> Vec<&mut u32> {
         Event::Tick { depot, shelf } | Event::Refresh { depot, shelf } => vec![depot, shelf],
         Event::Take { depot, shelf, from } => vec![depot, shelf, from],
         Event::Move { crew, depot } => vec![crew, depot],
+        Event::List { crew, bearings } => std::iter::once(crew).chain(bearings).collect(),
         Event::Greater { a, b, depots } => a.iter_mut().chain(b).chain(Some(depots)).collect(),
         Event::Fit | Event::Line(_) => Vec::new(),
     }

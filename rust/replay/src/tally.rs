@@ -3,15 +3,15 @@
 use std::fmt;
 
 use crate::event::{Event, Outcome, Step};
-use crate::register::ANSWER_BYTES;
+use crate::register::{ANSWER_BYTES, LIST_WORDS};
 use straight::calendar::LAST_DAY;
 use straight::layout::*;
 use straight::Counts;
 
-const CALLS: [&str; 8] = ["setup", "read", "write", "tick", "take", "refresh", "line", "move"];
+const CALLS: [&str; 9] = ["setup", "read", "write", "tick", "take", "refresh", "line", "move", "list"];
 const NAMES: [&str; 17] = [
     "done", "BAD BOOK", "BAD DEPOT", "BAD SHELF", "BAD KEY", "BAD CREW", "SAME DEPOT", "EMPTY LINK", "WAIT", "LINK FULL",
-    "CLOCK AT END", "BAD COUNTS", "NOT HERE YET", "BAD LINE", "BAD CARD", "", "BAD DATE",
+    "CLOCK AT END", "BAD COUNTS", "NOT HERE YET", "BAD LINE", "BAD CARD", "BAD LIST", "BAD DATE",
 ];
 
 macro_rules! marks {
@@ -81,6 +81,19 @@ marks! {
     PresentBehind: "a move to the present home, done, that has not seen all that the crew has",
     OneBehind: "NOT HERE YET, and one shelf of the new home has seen it all",
     OtherBehind: "NOT HERE YET for another depot than the present home",
+    ListOne: "a list of one bearing, done",
+    ListEight: "a list of eight bearings, done",
+    ListTwice: "a list that names a bearing twice, done",
+    ListBoth: "a list with written and unwritten answers",
+    ListGathers: "a list that raises a shelf by what another one knew, and its crew did not",
+    ListMerges: "a list that raises its crew's vector by more than one answer",
+    ListBeside: "a copy shown by a list on a shelf of none of its bearings",
+    ListNone: "a list of none, BAD LIST",
+    ListNine: "a list of nine, BAD LIST",
+    ListAndKey: "BAD LIST, and a bearing is out of range too",
+    ListLaterKey: "a list, BAD KEY, and its first bearing is in range",
+    LineList: "an L line, done",
+    LineLists: "an L line with more than eight bearings, BAD LIST",
     Laid: "a fit book laid out at random",
     Unfit: "a word changed, and the book is not fit",
     DoneUnfit: "a call done on a book that is not fit elsewhere",
@@ -106,7 +119,7 @@ pub struct Tally {
     pub events: u64,
     /// Lines that are BAD LINE.
     pub bad_lines: u64,
-    answers: [[u64; 17]; 8],
+    answers: [[u64; 17]; CALLS.len()],
     marks: Vec<u64>,
     /// Whether the book is fit, as far as the last event that says so told.
     fit: bool,
@@ -114,7 +127,7 @@ pub struct Tally {
 
 impl Default for Tally {
     fn default() -> Tally {
-        Tally { events: 0, bad_lines: 0, answers: [[0; 17]; 8], marks: vec![0; MARKS.len()], fit: false }
+        Tally { events: 0, bad_lines: 0, answers: [[0; 17]; CALLS.len()], marks: vec![0; MARKS.len()], fit: false }
     }
 }
 
@@ -150,6 +163,7 @@ impl Tally {
         self.mark_if(called && step.words != WORDS, Mark::WrongLength);
         let least = match step.event {
             Event::Line(_) => ANSWER_BYTES,
+            Event::List { .. } => LIST_WORDS,
             Event::Read { .. } => 8,
             Event::Write { .. } | Event::Grams { .. } => 2,
             _ => 0,
@@ -170,7 +184,7 @@ impl Tally {
             Event::Put { .. } => self.mark(if outcome.number == 1 { Mark::StillFit } else { Mark::Unfit }),
             Event::Greater { .. } => self.mark(if outcome.number == 1 { Mark::SecondGreater } else { Mark::FirstKept }),
             Event::Grams { .. } => self.mark(if outcome.number == 0 { Mark::Weighed } else { Mark::NotWeighed }),
-            Event::Line(text) => self.line(text),
+            Event::Line(text) => self.line(text, outcome),
             Event::Read { crew, bearing } if done => {
                 let (crew, bearing) = (*crew as usize, *bearing as usize);
                 let depot = before[home(crew)] as usize;
@@ -235,6 +249,16 @@ impl Tally {
             Event::Move { crew, depot } if done || outcome.number == 12 => {
                 self.moved(n, before, *crew as usize, *depot as usize, done);
             }
+            Event::List { crew, bearings } if done => self.listed(n, before, after, *crew as usize, bearings),
+            Event::List { bearings, .. } => {
+                let bad_key = |bearing: &u32| *bearing as usize >= n.bearings;
+                let bad_list = outcome.number == straight::Refusal::BadList as usize;
+                self.mark_if(bad_list && bearings.is_empty(), Mark::ListNone);
+                self.mark_if(bad_list && bearings.len() == 9, Mark::ListNine);
+                self.mark_if(bad_list && bearings.iter().any(bad_key), Mark::ListAndKey);
+                let by_key = outcome.number == straight::Refusal::BadKey as usize;
+                self.mark_if(by_key && !bad_key(&bearings[0]), Mark::ListLaterKey);
+            }
             _ => {}
         }
     }
@@ -260,6 +284,32 @@ impl Tally {
         }
     }
 
+    /// What a list found, and what it did to the shelves of its home.
+    fn listed(&mut self, n: Counts, before: &[u32], after: &[u32], crew: usize, bearings: &[u32]) {
+        let depot = before[home(crew)] as usize;
+        let vector = |bearing: u32| &after[stored(depot, bearing as usize) + VECTOR..][..n.depots];
+        let unwritten = |bearing: &u32| vector(*bearing).iter().all(|&entry| entry == 0);
+        self.mark_if(bearings.len() == 1, Mark::ListOne);
+        self.mark_if(bearings.len() == 8, Mark::ListEight);
+        let again = |at: usize| bearings[..at].contains(&bearings[at]);
+        self.mark_if((0..bearings.len()).any(again), Mark::ListTwice);
+        self.mark_if(bearings.iter().any(unwritten) && !bearings.iter().all(unwritten), Mark::ListBoth);
+        let raised = |at: usize| before[at] < after[at];
+        let risen: Vec<usize> = (0..n.depots).filter(|&x| raised(crew_vector(crew) + x)).collect();
+        let one = |bearing: &u32| risen.iter().all(|&x| vector(*bearing)[x] == after[crew_vector(crew) + x]);
+        self.mark_if(!bearings.iter().any(one), Mark::ListMerges);
+        let taken_in = |book: &[u32], shelf: usize| -> u32 {
+            (0..n.depots).filter(|&from| from != depot).map(|from| book[taken(link(shelf, from, depot))]).sum()
+        };
+        for shelf in 0..n.shelves {
+            let gathered = |x: usize| raised(stable(depot, shelf) + x) && after[stable(depot, shelf) + x] > before[crew_vector(crew) + x];
+            self.mark_if((0..n.depots).any(gathered), Mark::ListGathers);
+            let of_none = bearings.iter().all(|&bearing| bearing as usize % n.shelves != shelf);
+            self.mark_if(of_none && taken_in(after, shelf) < taken_in(before, shelf), Mark::ListBeside);
+            self.shelf(n, before, after, depot, shelf);
+        }
+    }
+
     /// Counts the answer; says whether a call was done.
     fn answer(&mut self, step: &Step, outcome: &Outcome) -> bool {
         let row = match step.event {
@@ -271,6 +321,7 @@ impl Tally {
             Event::Refresh { .. } => 5,
             Event::Line(_) => 6,
             Event::Move { .. } => 7,
+            Event::List { .. } => 8,
             _ => {
                 self.events += 1;
                 return false;
@@ -314,7 +365,7 @@ impl Tally {
         let call = matches!(
             step.event,
             Event::Read { .. } | Event::Write { .. } | Event::Tick { .. } | Event::Take { .. } | Event::Refresh { .. }
-                | Event::Move { .. }
+                | Event::Move { .. } | Event::List { .. }
         );
         if call && !self.fit {
             let by_part = outcome.number == 1 && straight::counts_and_homes(&before[..WORDS]);
@@ -400,8 +451,11 @@ impl Tally {
         }
     }
 
-    fn line(&mut self, text: &[u8]) {
+    fn line(&mut self, text: &[u8], outcome: &Outcome) {
+        let list = text.starts_with(b"L ");
+        self.mark_if(list && outcome.bytes[0] == b'0', Mark::LineList);
         let numbers = text.iter().filter(|&&byte| byte == b' ').count();
+        self.mark_if(list && outcome.bytes.starts_with(b"15\n") && numbers > 9, Mark::LineLists);
         self.mark_if(text.len() == 120, Mark::Line120);
         self.mark_if(text.len() == 121, Mark::Line121);
         self.mark_if(text.is_empty(), Mark::LineEmpty);

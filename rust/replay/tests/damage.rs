@@ -27,7 +27,7 @@ fn every_word_for_every_call() {
             Err(Trouble::Effect(text)) => panic!("{}", text),
         }
     }
-    for name in ["read", "write", "tick", "take", "refresh", "line", "is_fit", "setup"] {
+    for name in ["read", "write", "tick", "take", "refresh", "list", "line", "is_fit", "setup"] {
         let [met, bad, no_effect] = damaged.of(name);
         // Each place of each kind of book at least once: damage by one more leaves no word as it was.
         assert!(met >= (KINDS * straight::WORDS) as u64, "{}: {} damaged books", name, met);

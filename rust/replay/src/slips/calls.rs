@@ -53,6 +53,94 @@ impl Slipped {
         Ok(Reading { value: if written { Some(value) } else { None }, diameter, width, vector })
     }
 
+    pub(super) fn call_list(&self, book: &mut [u32], crew: u32, bearings: &[u32]) -> Answer<Vec<Reading>> {
+        let event = Event::List { crew, bearings: bearings.to_vec() };
+        let n = self.counts(book, &event)?;
+        let bad_list = match self.0 {
+            Slip::ListOfNone => bearings.len() > 8,
+            Slip::ListOfSeven => bearings.is_empty() || bearings.len() > 7,
+            _ => bearings.is_empty() || bearings.len() > 8,
+        };
+        if bad_list && self.has(Slip::ListBeforeCrew) {
+            return Err(Refusal::BadList);
+        }
+        let crew = below(crew, n.crews, Refusal::BadCrew)?;
+        let key = |&bearing: &u32| below(bearing, n.bearings, Refusal::BadKey);
+        if self.has(Slip::KeyBeforeList) {
+            bearings.iter().try_for_each(|bearing| key(bearing).map(|_| ()))?;
+        }
+        if bad_list {
+            return Err(if self.has(Slip::ListNineKeys) && bearings.len() == 9 { Refusal::BadKey } else { Refusal::BadList });
+        }
+        let mut listed = Vec::new();
+        for bearing in bearings {
+            let late = self.has(Slip::FirstKeyOnly) && !listed.is_empty();
+            listed.push(if late { key(bearing).unwrap_or(n.bearings - 1) } else { key(bearing)? });
+        }
+        if listed.is_empty() {
+            return Ok(Vec::new());
+        }
+        let named = listed.iter().map(|&bearing| bearing as u32).collect();
+        self.look(book, n, &Event::List { crew: crew as u32, bearings: named })?;
+        if self.has(Slip::OneByOne) {
+            return listed.iter().map(|&bearing| self.call_read(book, crew as u32, bearing as u32)).collect();
+        }
+        let depot = book[home(crew)] as usize;
+        let of_listed = |shelf: usize| listed.iter().any(|bearing| bearing % n.shelves == shelf);
+        let offered = self.gathered(book, n, crew, depot, &of_listed);
+        for shelf in (0..n.shelves).filter(|&shelf| of_listed(shelf) || !self.has(Slip::ListedRaised)) {
+            self.raise_and_show(book, n, depot, shelf, offered);
+        }
+
+        if self.has(Slip::ListSorted) {
+            listed.sort();
+        }
+        let mut readings = Vec::new();
+        for (at, &bearing) in listed.iter().enumerate() {
+            if self.has(Slip::OnceEach) && listed[..at].contains(&bearing) {
+                continue;
+            }
+            let reading = self.reading(book, n, depot, bearing);
+            let merges = match self.0 {
+                Slip::LastMerged => at + 1 == listed.len(),
+                Slip::NoneMerged => false,
+                _ => true,
+            };
+            for x in (0..n.depots).filter(|_| merges) {
+                let entry = &mut book[crew_vector(crew) + x];
+                *entry = reading.vector[x].max(*entry);
+            }
+            if self.has(Slip::RaisedBetween) {
+                (0..n.shelves).for_each(|shelf| self.raise_and_show(book, n, depot, shelf, reading.vector));
+            }
+            readings.push(reading);
+        }
+        Ok(readings)
+    }
+
+    /// What a list raises every shelf of its depot with.
+    fn gathered(&self, book: &[u32], n: Counts, crew: usize, depot: usize, of_listed: &dyn Fn(usize) -> bool) -> [u32; 4] {
+        let mine = vector(book, n, crew_vector(crew));
+        let mut offered = if self.has(Slip::CrewNotGathered) { [0; 4] } else { mine };
+        for x in (0..n.depots).filter(|&x| x != depot && !self.has(Slip::NotGathered)) {
+            let shelves = (0..n.shelves).filter(|&shelf| of_listed(shelf) || !self.has(Slip::ListedGathered));
+            let known = shelves.map(|shelf| book[stable(depot, shelf) + x]);
+            let known = if self.has(Slip::LowestGathered) { known.min() } else { known.max() };
+            offered[x] = offered[x].max(known.unwrap_or(0));
+        }
+        offered
+    }
+
+    /// What a depot stores of a bearing.
+    fn reading(&self, book: &[u32], n: Counts, depot: usize, bearing: usize) -> Reading {
+        let record = stored(depot, bearing);
+        let vector = vector(book, n, record + VECTOR);
+        if vector == [0; 4] {
+            return Reading { value: None, diameter: 0, width: 0, vector };
+        }
+        Reading { value: Some(book[record + VALUE]), diameter: book[record + DIAMETER], width: book[record + WIDTH], vector }
+    }
+
     pub(super) fn call_write(&self, book: &mut [u32], crew: u32, bearing: u32, value: u32, card: [u32; 2]) -> Answer<Written> {
         let event = Event::Write { crew, bearing, value, card };
         let late = self.late(value);

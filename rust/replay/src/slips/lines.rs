@@ -2,6 +2,7 @@
 
 use super::{Slip, Slipped};
 use crate::register::{read_answer, write_answer, Register};
+use straight::Reading;
 
 /// A desk that forgets a last line without its line feed.
 pub fn desk(input: &[u8]) -> Vec<u8> {
@@ -25,7 +26,6 @@ impl Slipped {
             Some(parts) => parts,
             None => return "13\n".to_string(),
         };
-        let depots = |book: &[u32]| book[0] as usize;
         let mut out = [0; 8];
         let more = self.has(Slip::LineMore);
         let number = match (event, &numbers[..]) {
@@ -34,17 +34,22 @@ impl Slipped {
             }
             (b'S', [a, b, c]) if self.has(Slip::LineThree) => self.setup(book, [*a, *b, *c, 0], &[]),
             (b'R', [crew, bearing, rest @ ..]) if rest.is_empty() || more => {
-                match read_answer(self.call_read(book, *crew, *bearing), &mut out) {
-                    0 => {
-                        let value = if out[0] == 1 { format!("{} {} {}", out[1], out[2], out[3]) } else { "-".to_string() };
-                        return out[4..4 + depots(book)]
-                            .iter()
-                            .fold(format!("0 {}", value), |text, entry| format!("{} {}", text, entry))
-                            + "\n";
-                    }
-                    number => number,
+                match self.call_read(book, *crew, *bearing) {
+                    Ok(reading) => return format!("0{}\n", found(book, &reading)),
+                    refused => read_answer(refused, &mut out),
                 }
             }
+            (b'L', _) if self.has(Slip::LineNoList) => 13,
+            (b'L', [_]) if self.has(Slip::LineListNone) => 13,
+            (b'L', [_, bearings @ ..]) if self.has(Slip::LineListMany) && bearings.len() > 8 => 13,
+            (b'L', [_, bearings @ ..]) if self.has(Slip::LineListTwenty) && bearings.len() > 19 => 13,
+            (b'L', [crew, bearings @ ..]) => match self.call_list(book, *crew, bearings) {
+                Ok(readings) => {
+                    let told = if self.has(Slip::LineListFirst) { 1 } else { readings.len() };
+                    return format!("0{}\n", readings.iter().take(told).map(|reading| found(book, reading)).collect::<String>());
+                }
+                Err(refusal) => refusal as u32,
+            },
             (b'W', [_, _, value, _, _]) if self.has(Slip::LineDate) && *value > straight::calendar::LAST_DAY => 13,
             (b'W', [crew, bearing, value]) if self.has(Slip::LineNoCard) => {
                 match write_answer(self.call_write(book, *crew, *bearing, *value, [0x3F80_0000; 2]), &mut out) {
@@ -90,4 +95,13 @@ impl Slipped {
         }
         Some(value as u32)
     }
+}
+
+/// What was read, as a line tells it.
+fn found(book: &[u32], reading: &Reading) -> String {
+    let value = match reading.value {
+        Some(value) => format!(" {} {} {}", value, reading.diameter, reading.width),
+        None => " -".to_string(),
+    };
+    reading.vector[..book[0] as usize].iter().fold(value, |text, entry| format!("{} {}", text, entry))
 }

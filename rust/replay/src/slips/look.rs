@@ -19,9 +19,10 @@ impl Slipped {
         n.crews = n.crews.min(MOST_CREWS as usize);
         let fit = match (self.0, event) {
             (Slip::HomesLate, _) => true,
-            (Slip::OwnHomeOnly, Event::Read { crew, .. } | Event::Write { crew, .. } | Event::Move { crew, .. }) => {
-                *crew as usize >= n.crews || (book[home(*crew as usize)] as usize) < n.depots
-            }
+            (
+                Slip::OwnHomeOnly,
+                Event::Read { crew, .. } | Event::Write { crew, .. } | Event::Move { crew, .. } | Event::List { crew, .. },
+            ) => *crew as usize >= n.crews || (book[home(*crew as usize)] as usize) < n.depots,
             (Slip::OwnHomeOnly, _) => true,
             _ => self.homes_fit(book),
         };
@@ -44,7 +45,7 @@ impl Slipped {
         let fit = if self.has(Slip::Whole(named.call)) {
             self.fit(book)
         } else {
-            pieces(n).into_iter().all(|piece| !self.looks_at(&named, piece) || self.seems_fit(book, n, &named, piece))
+            pieces(n).into_iter().all(|piece| !self.looks_at(&named, n, piece) || self.seems_fit(book, n, &named, piece))
         };
         if fit {
             Ok(())
@@ -54,12 +55,23 @@ impl Slipped {
     }
 
     /// Whether a call looks at a piece.
-    fn looks_at(&self, named: &Named, piece: Piece) -> bool {
+    fn looks_at(&self, named: &Named, n: Counts, piece: Piece) -> bool {
         let (call, part) = (named.call, named.part(piece));
-        let shows = matches!(call, Call::Read | Call::Write | Call::Refresh);
+        let shows = matches!(call, Call::Read | Call::Write | Call::Refresh | Call::List);
         match (self.0, part) {
             (Slip::Without(slipped, without), _) if call == slipped && part == without => false,
             (Slip::With(slipped, with), _) if call == slipped && part == with => true,
+            (Slip::ListedParts, Part::Stable | Part::HeadsIn | Part::TakenIn | Part::UntakenIn) if call == Call::List => {
+                let (Piece::Stable { shelf, .. } | Piece::Head { shelf, .. } | Piece::Taken { shelf, .. }
+                | Piece::Untaken { shelf, .. }) = piece
+                else {
+                    return false;
+                };
+                named.bearings.iter().any(|bearing| bearing % n.shelves == shelf)
+            }
+            (Slip::FirstStored, Part::StoredNamed) if call == Call::List => {
+                matches!(piece, Piece::Stored { bearing, .. } if named.bearings[0] == bearing)
+            }
             (Slip::HeadsOfOtherWay, Part::HeadsOut) => false,
             (Slip::HeadsOfOtherWay, Part::HeadsIn) if call == Call::Tick => true,
             (Slip::TakeOtherWay, Part::HeadsIn | Part::UntakenIn) if call == Call::Take => false,
@@ -94,13 +106,15 @@ impl Slipped {
     /// The bearings of the taken copies into the call's shelf that its stable vector covers.
     fn covered_bearings(&self, book: &[u32], n: Counts, named: &Named) -> Vec<usize> {
         let mut bearings = Vec::new();
-        for from in (0..n.depots).filter(|&from| from != named.depot) {
-            let link = link(named.shelf, from, named.depot);
-            for place in 0..self.head(book, link).1 {
-                let copy = slot(link, place) + 1;
-                let stable = stable(named.depot, named.shelf);
-                if (0..n.depots).all(|x| x == named.depot || book[copy + VECTOR + x] <= book[stable + x]) {
-                    bearings.push(book[copy + BEARING] as usize);
+        for shelf in named.shelves(n) {
+            for from in (0..n.depots).filter(|&from| from != named.depot) {
+                let link = link(shelf, from, named.depot);
+                for place in 0..self.head(book, link).1 {
+                    let copy = slot(link, place) + 1;
+                    let stable = stable(named.depot, shelf);
+                    if (0..n.depots).all(|x| x == named.depot || book[copy + VECTOR + x] <= book[stable + x]) {
+                        bearings.push(book[copy + BEARING] as usize);
+                    }
                 }
             }
         }

@@ -9,7 +9,7 @@ mod look;
 use std::fmt;
 
 use crate::parts::{looks, means, Call, Part, CALLS, PARTS};
-use crate::register::{grams_answer, in_room, number, read_answer, write_answer, Register};
+use crate::register::{grams_answer, in_room, list_answer, number, read_answer, write_answer, Register, LIST_WORDS};
 pub use lines::desk;
 
 macro_rules! slips {
@@ -301,6 +301,58 @@ slips! {
     MoveBeforeParts,
     /// A move to the present home looks at no part.
     MovePresentNames,
+    /// A list of none is done.
+    ListOfNone,
+    /// A list of eight is BAD LIST.
+    ListOfSeven,
+    /// A list of nine is BAD KEY.
+    ListNineKeys,
+    /// BAD LIST is noticed before BAD CREW.
+    ListBeforeCrew,
+    /// BAD KEY is noticed before BAD LIST.
+    KeyBeforeList,
+    /// Only the first bearing of a list is checked; another counts as the last of all.
+    FirstKeyOnly,
+    /// A list looks at the shelves of its bearings only.
+    ListedParts,
+    /// A list looks at the stored version of its first bearing only.
+    FirstStored,
+    /// A list takes only its crew's vector.
+    NotGathered,
+    /// A list takes the stable vectors of its bearings' shelves only.
+    ListedGathered,
+    /// A list takes what all shelves know, and not what one of them does.
+    LowestGathered,
+    /// A list takes the stable vectors without its crew's.
+    CrewNotGathered,
+    /// A list raises the shelves of its bearings only.
+    ListedRaised,
+    /// A list reads one bearing after the other, each as a read does.
+    OneByOne,
+    /// A list raises every shelf again with each answer.
+    RaisedBetween,
+    /// A list merges its last answer only.
+    LastMerged,
+    /// A list merges no answer.
+    NoneMerged,
+    /// A bearing that is named twice is answered once.
+    OnceEach,
+    /// The answers of a list come in the order of the bearings.
+    ListSorted,
+    /// The words behind the last answer of a list stay.
+    ListRestKept,
+    /// A list asks for the room of its own answers only.
+    ListOwnRoom,
+    /// L is no line.
+    LineNoList,
+    /// An L line with a crew alone is BAD LINE.
+    LineListNone,
+    /// An L line with more than eight bearings is BAD LINE.
+    LineListMany,
+    /// An L line with more than nineteen bearings is BAD LINE, as there is no room for more than 20 numbers.
+    LineListTwenty,
+    /// An L line tells its first answer only.
+    LineListFirst,
     /// A line of 121 bytes passes.
     Line121,
     /// A line of 120 bytes is too long.
@@ -363,6 +415,24 @@ impl Register for Slipped {
 
     fn move_crew(&self, book: &mut [u32], crew: u32, depot: u32) -> u32 {
         number(self.call_move(book, crew, depot))
+    }
+
+    fn list(&self, book: &mut [u32], crew: u32, bearings: &[u32], out: &mut [u32]) -> u32 {
+        let own = 8 * bearings.len().min(8);
+        if self.has(Slip::ListOwnRoom) && (own..LIST_WORDS).contains(&out.len()) {
+            let mut room = [0; LIST_WORDS];
+            let number = list_answer(self.call_list(book, crew, bearings), &mut room);
+            out[..own].copy_from_slice(&room[..own]);
+            return number;
+        }
+        in_room(LIST_WORDS, out, |out| {
+            let before = out.to_vec();
+            let number = list_answer(self.call_list(book, crew, bearings), out);
+            if self.has(Slip::ListRestKept) {
+                out[own..].copy_from_slice(&before[own..]);
+            }
+            number
+        })
     }
 
     fn is_fit(&self, book: &[u32]) -> u32 {
