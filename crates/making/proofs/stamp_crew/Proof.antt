@@ -1,10 +1,10 @@
--- `register::calls::write::stamp_crew` meets its contract: raise and show, then one entry of the crew's vector.
+-- `making::stamp_crew` meets its contract: raise and show, then one entry of the crew's vector.
 -- Assumes nothing.
 use Prim.Native.Nat.{_+_}
 use lib.ListN.{set}
 use borrow.Author.Needs.{needs}
-use Rattle.write.proofs.stamp_crew.Statement.{statement}
-use Rattle.write.proofs.stamp_crew.Tie as tie
+use Rattle.making.proofs.stamp_crew.Statement.{statement}
+use Rattle.making.proofs.stamp_crew.Tie as tie
 
 returns : tie.Need-returns
 returns c = λ z. set (c .before .before .before .before .settle-home .ensures z) (c .before .crew-at .ensures z + c .index .ensures z)

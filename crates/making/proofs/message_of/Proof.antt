@@ -1,11 +1,11 @@
--- `write::message_of` meets its contract: the fields of the version in their places, the card as its two words.
+-- `making::message_of` meets its contract: the fields of the version in their places, the card as its two words.
 -- Assumes nothing.
 use mathlib.Core.List.{[], _∷_}
 use lib.ListN.{getD}
 use Rattle.book.specs.Layout.{copyKind}
 use borrow.Author.Needs.{needs}
-use Rattle.write.proofs.message_of.Statement.{statement}
-use Rattle.write.proofs.message_of.Tie as tie
+use Rattle.making.proofs.message_of.Statement.{statement}
+use Rattle.making.proofs.message_of.Tie as tie
 
 returns : tie.Need-returns
 returns c =

@@ -1,12 +1,12 @@
--- `register::calls::write::made_vector` meets its contract: one entry set, and the rest cut off.
+-- `making::made_vector` meets its contract: one entry set, and the rest cut off.
 -- Assumes nothing.
 use mathlib.Core.Path.{_∙_, ap}
 use native.Mathlib.Omega.{arith}
 use lib.ListN.{length, length-set}
 use Rattle.register.proofs.WriteLaws.{cut-set}
 use borrow.Author.Needs.{needs}
-use Rattle.write.proofs.made_vector.Statement.{statement}
-use Rattle.write.proofs.made_vector.Tie as tie
+use Rattle.making.proofs.made_vector.Statement.{statement}
+use Rattle.making.proofs.made_vector.Tie as tie
 
 cut-vector-requires : tie.Need-cut-vector-requires
 cut-vector-requires c κs =

@@ -1,11 +1,11 @@
--- `register::calls::write::answered` meets its contract: the choice that the test makes.
+-- `making::answered` meets its contract: the choice that the test makes.
 -- Assumes nothing.
 use mathlib.Core.Path.{sym}
 use Rattle.loops.proofs.BoolLaws.{pick-true, pick-false}
 use Rattle.paper.specs.Answers.{paperWrite}
 use Rattle.register.specs.Answers.{written}
-use Rattle.write.proofs.answered.Statement.{statement}
-use Rattle.write.proofs.answered.Tie as tie
+use Rattle.making.proofs.answered.Statement.{statement}
+use Rattle.making.proofs.answered.Tie as tie
 
 returns : tie.Need-returns
 unfolding paperWrite written

@@ -1,4 +1,4 @@
--- `register::calls::write::write_version` meets its contract: the copy is made, the crew stamped, the record kept, the copy sent.
+-- `making::write_version` meets its contract: the copy is made, the crew stamped, the record kept, the copy sent.
 -- Assumes nothing.
 use Prim.Native.Nat.{suc, _≤_, _<_}
 use native.Mathlib.Nat.{lt-of-lt-of-le}
@@ -14,8 +14,8 @@ use Rattle.register.specs.Calls.{payloadFrom, madeRecord, writtenCrew}
 use Rattle.register.proofs.MadeLaws.{length-made, made-bearing}
 use Rattle.register.proofs.WriteLaws.{copy-made, record-made, crew-made, current-made, store-made, sent-made, answer-made, may-done, may-based, may-ready, may-free}
 use borrow.Author.Needs.{needs}
-use Rattle.write.proofs.write_version.Statement.{statement}
-use Rattle.write.proofs.write_version.Tie as tie
+use Rattle.making.proofs.write_version.Statement.{statement}
+use Rattle.making.proofs.write_version.Tie as tie
 
 -- what is written
 abbrev written : tie.Start → Payload

@@ -1,11 +1,11 @@
--- `register::calls::write::keep_record` meets its contract: the comparison, and the record where it is greater.
+-- `making::keep_record` meets its contract: the comparison, and the record where it is greater.
 -- Assumes nothing.
 use mathlib.Core.Path.{_∙_, sym}
 use denote.Ref.{now}
 use Rattle.register.proofs.WriteLaws.{kept-said, kept-greater, kept-dropped}
 use borrow.Author.Needs.{needs}
-use Rattle.write.proofs.keep_record.Statement.{statement}
-use Rattle.write.proofs.keep_record.Tie as tie
+use Rattle.making.proofs.keep_record.Statement.{statement}
+use Rattle.making.proofs.keep_record.Tie as tie
 
 returns : tie.Need-returns
 returns c =

@@ -1,4 +1,4 @@
--- `register::calls::write::made_copy` meets its contract: the fields of the version, in their places.
+-- `making::made_copy` meets its contract: the fields of the version, in their places.
 -- Assumes nothing.
 use mathlib.Core.Path.{_∙_}
 use mathlib.Core.List.{[], _∷_}
@@ -7,8 +7,8 @@ use Rattle.book.specs.Layout.{copyKind}
 use Rattle.card.specs.Card.{wordOf}
 use Rattle.register.specs.Answers.{cut}
 use borrow.Author.Needs.{needs}
-use Rattle.write.proofs.made_copy.Statement.{statement}
-use Rattle.write.proofs.made_copy.Tie as tie
+use Rattle.making.proofs.made_copy.Statement.{statement}
+use Rattle.making.proofs.made_copy.Tie as tie
 
 returns : tie.Need-returns
 unfolding cut
