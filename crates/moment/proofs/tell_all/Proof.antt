@@ -1,4 +1,4 @@
--- `page::tell_all` meets its contract: the loop's invariant is that the words tell of the bearings so far.
+-- `moment::tell_all` meets its contract: the loop's invariant is that the words tell of the bearings so far.
 -- Assumes nothing.
 use Prim.Native.Nat.{ℕ, _≤_, _<_, _*_, _-_}
 use native.Mathlib.Nat.{lt-of-lt-of-le}
@@ -13,10 +13,10 @@ use Rattle.named.proofs.NamedLaws.{below-at}
 use Rattle.paper.specs.Answers.{toldWords, pageWords}
 use Rattle.register.specs.Answers.{told}
 use Rattle.register.proofs.ListTable.{list-size-in}
-use Rattle.page.proofs.PageLaws.{page-none, page-more, page-done}
+use Rattle.moment.proofs.MomentLaws.{page-none, page-more, page-done}
 use borrow.Author.Needs.{needs}
-use Rattle.page.proofs.tell_all.Statement.{statement}
-use Rattle.page.proofs.tell_all.Tie as tie
+use Rattle.moment.proofs.tell_all.Statement.{statement}
+use Rattle.moment.proofs.tell_all.Tie as tie
 
 abbrev Inv-loop : tie.InvT-loop
 Inv-loop book n d bearings words₀ i₀ words i =

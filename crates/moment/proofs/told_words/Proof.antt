@@ -1,4 +1,4 @@
--- `page::told_words` meets its contract: the vector, and whether it is all zeros.
+-- `moment::told_words` meets its contract: the vector, and whether it is all zeros.
 -- Assumes nothing.
 use Prim.Native.Nat.{ℕ}
 use mathlib.Core.Path.{_≡_, _∙_, sym, ap}
@@ -10,10 +10,10 @@ use Rattle.order.specs.Vector.{zeros}
 use Rattle.order.proofs.RecordLaws.{zeros-part}
 use Rattle.register.specs.Answers.{cut}
 use Rattle.register.proofs.HomeLaws.{cut-part}
-use Rattle.page.proofs.PageLaws.{words-unwritten, words-value}
+use Rattle.moment.proofs.MomentLaws.{words-unwritten, words-value}
 use borrow.Author.Needs.{needs}
-use Rattle.page.proofs.told_words.Statement.{statement}
-use Rattle.page.proofs.told_words.Tie as tie
+use Rattle.moment.proofs.told_words.Statement.{statement}
+use Rattle.moment.proofs.told_words.Tie as tie
 
 -- what the two callees say of the record's own vector
 vector-said : (c : tie.After-cut-vector) → let args = c .before .before .before .args in c .cut-vector .result ≡ cut (args .n) (vectorOf (now (args .version)))

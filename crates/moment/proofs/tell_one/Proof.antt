@@ -1,4 +1,4 @@
--- `page::tell_one` meets its contract: the record, then its words.
+-- `moment::tell_one` meets its contract: the record, then its words.
 -- Assumes nothing.
 use Prim.Native.Nat.{ℕ}
 use mathlib.Core.Path.{_∙_, ap}
@@ -9,8 +9,8 @@ use Rattle.book.proofs.WordsLaws.{part-from}
 use Rattle.paper.specs.Answers.{toldWords}
 use Rattle.register.specs.Answers.{told}
 use borrow.Author.Needs.{needs}
-use Rattle.page.proofs.tell_one.Statement.{statement}
-use Rattle.page.proofs.tell_one.Tie as tie
+use Rattle.moment.proofs.tell_one.Statement.{statement}
+use Rattle.moment.proofs.tell_one.Tie as tie
 
 returns : tie.Need-returns
 returns c =

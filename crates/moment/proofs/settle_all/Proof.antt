@@ -1,4 +1,4 @@
--- `page::settle_all` meets its contract: the loop's invariant is that the words are those of the turns so far; a shelf whose turn comes is ready as it was.
+-- `moment::settle_all` meets its contract: the loop's invariant is that the words are those of the turns so far; a shelf whose turn comes is ready as it was.
 -- Assumes nothing.
 use Prim.Native.Nat.{ℕ, _≤_, _-_}
 use native.Mathlib.Nat.{le-antisymm}
@@ -12,8 +12,8 @@ use Rattle.shelf.specs.Asks.{Ready}
 use Rattle.register.specs.Calls.{settledAll}
 use Rattle.register.proofs.PageReady.{pageTurn, page-ready}
 use borrow.Author.Needs.{needs}
-use Rattle.page.proofs.settle_all.Statement.{statement}
-use Rattle.page.proofs.settle_all.Tie as tie
+use Rattle.moment.proofs.settle_all.Statement.{statement}
+use Rattle.moment.proofs.settle_all.Tie as tie
 
 abbrev Inv-loop : tie.InvT-loop
 Inv-loop book₀ n p d offered s₀ book s = (s ≤ p) × (length book ≡ length book₀) × (book ≡ times s (pageTurn n (d .0) (vectorIn offered)) book₀)

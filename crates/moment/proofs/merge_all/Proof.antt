@@ -1,4 +1,4 @@
--- `page::merge_all` meets its contract: the loop's invariant is that the words are those of the turns so far.
+-- `moment::merge_all` meets its contract: the loop's invariant is that the words are those of the turns so far.
 -- Assumes nothing.
 use Prim.Native.Nat.{ℕ, _≤_, _<_, _-_}
 use native.Mathlib.Nat.{le-antisymm, lt-of-lt-of-le}
@@ -13,8 +13,8 @@ use Rattle.book.specs.Layout.{crewAt, stored}
 use Rattle.named.proofs.NamedLaws.{below-at}
 use Rattle.register.specs.Calls.{mergedAll}
 use borrow.Author.Needs.{needs}
-use Rattle.page.proofs.merge_all.Statement.{statement}
-use Rattle.page.proofs.merge_all.Tie as tie
+use Rattle.moment.proofs.merge_all.Statement.{statement}
+use Rattle.moment.proofs.merge_all.Tie as tie
 
 -- one turn, with bearing k
 abbrev turn : ℕ → ℕ → ℕ → ℕ → List ℕ → List ℕ

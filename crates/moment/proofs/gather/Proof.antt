@@ -1,4 +1,4 @@
--- `page::gather` meets its contract: the loop's invariant is that the vector is that of the turns so far.
+-- `moment::gather` meets its contract: the loop's invariant is that the vector is that of the turns so far.
 -- Assumes nothing.
 use Prim.Native.Nat.{ℕ, _≤_, _-_}
 use native.Mathlib.Nat.{le-antisymm}
@@ -12,8 +12,8 @@ use Rattle.order.specs.Vector.{mergedAt}
 use Rattle.book.specs.Layout.{stable}
 use Rattle.register.specs.Calls.{gatheredFrom}
 use borrow.Author.Needs.{needs}
-use Rattle.page.proofs.gather.Statement.{statement}
-use Rattle.page.proofs.gather.Tie as tie
+use Rattle.moment.proofs.gather.Statement.{statement}
+use Rattle.moment.proofs.gather.Tie as tie
 
 abbrev turn : ℕ → ℕ → List ℕ → ℕ → List ℕ → List ℕ
 turn n d l s u = mergedAt n d (stable l d s) 0 u

@@ -1,10 +1,10 @@
--- `page::merge_one` meets its contract: the record's vector is copied out, then merged.
+-- `moment::merge_one` meets its contract: the record's vector is copied out, then merged.
 -- Assumes nothing.
 use denote.Ref.{now}
-use Rattle.page.proofs.PageLaws.{merged-found}
+use Rattle.moment.proofs.MomentLaws.{merged-found}
 use borrow.Author.Needs.{needs}
-use Rattle.page.proofs.merge_one.Statement.{statement}
-use Rattle.page.proofs.merge_one.Tie as tie
+use Rattle.moment.proofs.merge_one.Statement.{statement}
+use Rattle.moment.proofs.merge_one.Tie as tie
 
 returns : tie.Need-returns
 returns c =

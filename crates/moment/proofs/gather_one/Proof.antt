@@ -1,10 +1,10 @@
--- `page::gather_one` meets its contract: the maximum with the part that is the stable vector.
+-- `moment::gather_one` meets its contract: the maximum with the part that is the stable vector.
 -- Assumes nothing.
 use denote.Ref.{now}
-use Rattle.page.proofs.PageLaws.{merged-part}
+use Rattle.moment.proofs.MomentLaws.{merged-part}
 use borrow.Author.Needs.{needs}
-use Rattle.page.proofs.gather_one.Statement.{statement}
-use Rattle.page.proofs.gather_one.Tie as tie
+use Rattle.moment.proofs.gather_one.Statement.{statement}
+use Rattle.moment.proofs.gather_one.Tie as tie
 
 returns : tie.Need-returns
 returns c =
