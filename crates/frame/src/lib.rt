@@ -11,6 +11,11 @@ ghost use Rattle.order.specs.Record.{mostDepots};
 ghost use Rattle.frame.specs.Frame.{sizeOf, whom};
 ghost use Rattle.frame.specs.Promises.{Ready};
 
+// Bytes before the offsets, and of an offset.
+pub const FRONT: usize = 4;
+
+pub const OFFSET: usize = 2;
+
 // The link that a frame is for, and the counts of its register.
 pub struct Route {
     pub counts: Counts,

@@ -13,8 +13,8 @@ use Rattle.wire.specs.Wire.{joined}
 use Rattle.wire.proofs.WireLaws.{joined-long, put-none, put-run}
 use Rattle.frame.specs.Frame.{sizeOf, countIn, startIn, messageAt, bodyIn}
 use Rattle.frame.proofs.Theorems.{message-ten}
-use Rattle.frame_reader.specs.Asks.{There}
-use Rattle.frame_reader.proofs.ReaderLaws.{start-none, start-more, there-at}
+use Rattle.frame_form.specs.Asks.{There}
+use Rattle.frame_form.proofs.FormLaws.{start-none, start-more, there-at}
 use borrow.Author.Needs.{needs}
 use Rattle.frame_reader.proofs.hand_out.Statement.{statement}
 use Rattle.frame_reader.proofs.hand_out.Tie as tie

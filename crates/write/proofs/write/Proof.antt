@@ -1,4 +1,4 @@
--- `register::calls::write::write` meets its contract: the shared checks, then the rest.
+-- `write::write` meets its contract: the shared checks, then the rest.
 -- Assumes nothing.
 use Prim.Native.Nat.{_<_}
 use mathlib.Core.Path.{_∙_, sym, subst, subst₂}

@@ -1,4 +1,4 @@
--- `register::calls::write::write_at` meets its contract: the parts, the checks that need the home shelf, then the version.
+-- `write::write_at` meets its contract: the parts, the checks that need the home shelf, then the version.
 -- Assumes nothing.
 use Prim.Native.Nat.{ℕ, _+_, _%_, _≤_, _<_}
 use native.Mathlib.Nat.{lt-of-lt-of-le}
