@@ -22,7 +22,7 @@ extern "C" {
 #endif
 
 /* The version of the register. This is its one place: the scripts read it here, and the gate holds rust/ and CHANGELOG.md to it. */
-#define DEPOT_REGISTER_VERSION "0.3.0"
+#define DEPOT_REGISTER_VERSION "0.4.0"
 
 #define DEPOT_BOOK_WORDS 16384 /* words of a book */
 #define DEPOT_RECORD_WORDS 9   /* words of a version record */
