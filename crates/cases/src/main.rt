@@ -217,8 +217,8 @@ fn case_j(book: &mut [u32], out: &mut [u8]) -> bool
     written && carried && read
 }
 
-// (k) sums first: (0, 5) is greater than (1, 0), so both depots end with the second depot's 9.
-fn case_k(book: &mut [u32], out: &mut [u8]) -> bool
+// The first depot writes a 7 with (1, 0), and the second a 9 with (0, 5).
+fn uneven(book: &mut [u32], out: &mut [u8]) -> bool
     requires { ⌜ answerRoom ≤ length (now out) ⌝ }
 {
     let fresh = runs(
@@ -228,13 +228,21 @@ fn case_k(book: &mut [u32], out: &mut [u8]) -> bool
     );
     let ticked = repeated(book, out, b"K 1 0\n0\n", 4);
     let written = runs(book, out, b"W 1 0 9 1065353216 1065353216\n0 5 C\n");
+    fresh && ticked && written
+}
+
+// (k) sums first: (0, 5) is greater than (1, 0), so both depots end with the second depot's 9.
+fn case_k(book: &mut [u32], out: &mut [u8]) -> bool
+    requires { ⌜ answerRoom ≤ length (now out) ⌝ }
+{
+    let written = uneven(book, out);
     let taken = repeated(book, out, b"T 0 0 1\n0\n", 5);
     let shown = runs(
         book,
         out,
         b"F 0 0\n0\nR 0 0\n0 9 1065353216 1065353216 0 5\nT 1 0 0\n0\nF 1 0\n0\nR 1 0\n0 9 1065353216 1065353216 0 5\n",
     );
-    fresh && ticked && written && taken && shown
+    written && taken && shown
 }
 
 // (l) equal sums go entry by entry from depot 0 on: (2, 0) is greater than (1, 1), so the first depot's 8 stays.
