@@ -14,7 +14,7 @@ use Rattle.loops.specs.Loops.{pick}
 use Rattle.loops.proofs.BoolLaws.{eq-or-ne, pick-true, pick-false}
 use Rattle.shelf.proofs.FrameLaws.{pick-cases}
 use Rattle.events.specs.Answering.{lineFeed}
-use Rattle.script.specs.Script.{onto, linesOf, lineSize, firstLine, unfed}
+use Rattle.script.specs.Script.{onto, fedLines, lineSize, firstLine, unfed}
 
 -- what is after the first line
 abbrev pub afterLine : List ℕ → List ℕ
@@ -35,12 +35,12 @@ module _ (b : ℕ) (t : List ℕ) where
   unfolding lineSize
   size-on e = pick-false _ _ (ne-eqb b 10 e)
 
-  lines-fed : b ≡ lineFeed → linesOf (b ∷ t) ≡ (b ∷ []) ∷ linesOf t
-  unfolding linesOf
+  lines-fed : b ≡ lineFeed → fedLines (b ∷ t) ≡ (b ∷ []) ∷ fedLines t
+  unfolding fedLines
   lines-fed e = pick-true _ _ (eq-eqb b 10 e)
 
-  lines-on : (b ≡ lineFeed → ⊥) → linesOf (b ∷ t) ≡ onto b (linesOf t)
-  unfolding linesOf
+  lines-on : (b ≡ lineFeed → ⊥) → fedLines (b ∷ t) ≡ onto b (fedLines t)
+  unfolding fedLines
   lines-on e = pick-false _ _ (ne-eqb b 10 e)
 
 pub size-within : (t : List ℕ) → lineSize t ≤ length t
@@ -158,13 +158,13 @@ pub unfed-first : (t : List ℕ) → unfed (firstLine t) ≡ unfed t
 unfolding unfed firstLine
 unfed-first t = ap (λ (n : ℕ). take n (take (suc (lineSize t)) t)) (size-first t) ∙ take-take (lineSize t) (suc (lineSize t)) t (omega arith)
 
-pub lines-more : (t : List ℕ) → 0 < length t → linesOf t ≡ firstLine t ∷ linesOf (afterLine t)
+pub lines-more : (t : List ℕ) → 0 < length t → fedLines t ≡ firstLine t ∷ fedLines (afterLine t)
 unfolding firstLine onto
 lines-more [] h = absurd (omega arith)
 lines-more (b ∷ []) h =
     ⊎-elim
     (λ (e : b ≡ lineFeed). lines-fed b [] e ∙ rw (size-fed b [] e) refl)
-    (λ (e : b ≡ lineFeed → ⊥). lines-on b [] e ∙ rw (size-on b [] e) (unfold linesOf in refl))
+    (λ (e : b ≡ lineFeed → ⊥). lines-on b [] e ∙ rw (size-on b [] e) (unfold fedLines in refl))
     (eq-or-ne b lineFeed)
 lines-more (b ∷ c ∷ t) h =
     ⊎-elim

@@ -11,13 +11,13 @@ use lib.ListN.{length, take, drop, length-append, length-drop, drop-of-length-le
 use Rattle.loops.proofs.BoolLaws.{both-ways}
 use Rattle.events.specs.Answering.{lineFeed, answerTo, bookAfter, readingSays}
 use Rattle.line.specs.Reading.{reading}
-use Rattle.script.specs.Script.{linesOf, lineSize, firstLine, unfed, Runs, bookThrough, bookTimes, RunsTimes, Exactly}
+use Rattle.script.specs.Script.{fedLines, lineSize, firstLine, unfed, Runs, bookRun, bookTimes, RunsTimes, Exactly}
 use Rattle.script.proofs.LineLaws.{afterLine, lines-more, unfed-first, line-part, fed-part, after-part, after-within}
 
 -- ---- a line, its answer and the rest
 
-lines-none : linesOf [] ≡ []
-unfolding linesOf
+lines-none : fedLines [] ≡ []
+unfolding fedLines
 lines-none = refl
 
 -- every answer has a byte: its line feed
@@ -27,43 +27,43 @@ some-answer l s = let e : length (answerTo l s) ≡ length (readingSays l (readi
 
 -- after the line s comes the text u
 module _ (l s : List ℕ) where
-  runs-on : (u : List ℕ) → firstLine u ≡ answerTo l (unfed s) → Runs (bookAfter l (unfed s)) (linesOf (afterLine u)) → Runs l (s ∷ linesOf u)
+  runs-on : (u : List ℕ) → firstLine u ≡ answerTo l (unfed s) → Runs (bookAfter l (unfed s)) (fedLines (afterLine u)) → Runs l (s ∷ fedLines u)
   unfolding Runs firstLine
   runs-on [] e h = absurd (let k = some-answer l (unfed s) in let n = ap (λ (a : List ℕ). length a) e in omega arith)
   runs-on (c ∷ u) e h = rw (lines-more (c ∷ u) (omega arith)) (e, h)
 
-  runs-back : (u : List ℕ) → Runs l (s ∷ linesOf u) → (firstLine u ≡ answerTo l (unfed s)) × Runs (bookAfter l (unfed s)) (linesOf (afterLine u))
+  runs-back : (u : List ℕ) → Runs l (s ∷ fedLines u) → (firstLine u ≡ answerTo l (unfed s)) × Runs (bookAfter l (unfed s)) (fedLines (afterLine u))
   unfolding Runs
   runs-back [] h = absurd (subst (λ (x : List (List ℕ)). Runs l (s ∷ x)) lines-none h)
   runs-back (c ∷ u) h = subst (λ (x : List (List ℕ)). Runs l (s ∷ x)) (lines-more (c ∷ u) (omega arith)) h
 
-  book-on : (u : List ℕ) → bookThrough l (s ∷ linesOf u) ≡ bookThrough (bookAfter l (unfed s)) (linesOf (afterLine u))
-  unfolding bookThrough
+  book-on : (u : List ℕ) → bookRun l (s ∷ fedLines u) ≡ bookRun (bookAfter l (unfed s)) (fedLines (afterLine u))
+  unfolding bookRun
   book-on [] = rw lines-none refl
   book-on (c ∷ u) = rw (lines-more (c ∷ u) (omega arith)) refl
 
 -- the text t begins with the line, and after its answer it goes on
 module _ (l t : List ℕ) (h : 0 < length t) where
-  turn-book : bookThrough l (linesOf t) ≡ bookThrough (bookAfter l (unfed t)) (linesOf (afterLine (afterLine t)))
+  turn-book : bookRun l (fedLines t) ≡ bookRun (bookAfter l (unfed t)) (fedLines (afterLine (afterLine t)))
   turn-book =
-      ap (λ (x : List (List ℕ)). bookThrough l x) (lines-more t h)
+      ap (λ (x : List (List ℕ)). bookRun l x) (lines-more t h)
       ∙ book-on l (firstLine t) (afterLine t)
-      ∙ ap (λ (x : List ℕ). bookThrough (bookAfter l x) (linesOf (afterLine (afterLine t)))) (unfed-first t)
+      ∙ ap (λ (x : List ℕ). bookRun (bookAfter l x) (fedLines (afterLine (afterLine t)))) (unfed-first t)
 
-  turn-runs : firstLine (afterLine t) ≡ answerTo l (unfed t) → Runs (bookAfter l (unfed t)) (linesOf (afterLine (afterLine t))) → Runs l (linesOf t)
+  turn-runs : firstLine (afterLine t) ≡ answerTo l (unfed t) → Runs (bookAfter l (unfed t)) (fedLines (afterLine (afterLine t))) → Runs l (fedLines t)
   turn-runs e r =
       subst (λ (x : List (List ℕ)). Runs l x) (sym (lines-more t h))
       (subst
-      (λ (x : List ℕ). firstLine (afterLine t) ≡ answerTo l x → Runs (bookAfter l x) (linesOf (afterLine (afterLine t))) → Runs l (firstLine t ∷ linesOf (afterLine t)))
+      (λ (x : List ℕ). firstLine (afterLine t) ≡ answerTo l x → Runs (bookAfter l x) (fedLines (afterLine (afterLine t))) → Runs l (firstLine t ∷ fedLines (afterLine t)))
       (unfed-first t)
       (runs-on l (firstLine t) (afterLine t))
       e
       r)
 
-  turn-back : Runs l (linesOf t) → (firstLine (afterLine t) ≡ answerTo l (unfed t)) × Runs (bookAfter l (unfed t)) (linesOf (afterLine (afterLine t)))
+  turn-back : Runs l (fedLines t) → (firstLine (afterLine t) ≡ answerTo l (unfed t)) × Runs (bookAfter l (unfed t)) (fedLines (afterLine (afterLine t)))
   turn-back r =
       subst
-      (λ (x : List ℕ). (firstLine (afterLine t) ≡ answerTo l x) × Runs (bookAfter l x) (linesOf (afterLine (afterLine t))))
+      (λ (x : List ℕ). (firstLine (afterLine t) ≡ answerTo l x) × Runs (bookAfter l x) (fedLines (afterLine (afterLine t))))
       (unfed-first t)
       (runs-back l (firstLine t) (afterLine t) (subst (λ (x : List (List ℕ)). Runs l x) (lines-more t h) r))
 
@@ -80,9 +80,9 @@ module _ {r good good′ : Bool} {P : Type 0} (x : Exactly r P) where
 
 pub record Far (l₀ s : List ℕ) (good : Bool) (l : List ℕ) (at : ℕ) : Type 0 where
   pub within : at ≤ length s
-  pub book : bookThrough l₀ (linesOf s) ≡ bookThrough l (linesOf (drop at s))
-  pub rest : good ≡ true → Runs l (linesOf (drop at s)) → Runs l₀ (linesOf s)
-  pub whole : Runs l₀ (linesOf s) → (good ≡ true) × Runs l (linesOf (drop at s))
+  pub book : bookRun l₀ (fedLines s) ≡ bookRun l (fedLines (drop at s))
+  pub rest : good ≡ true → Runs l (fedLines (drop at s)) → Runs l₀ (fedLines s)
+  pub whole : Runs l₀ (fedLines s) → (good ≡ true) × Runs l (fedLines (drop at s))
 
 pub far-start : (l s : List ℕ) → Far l s true l 0
 far-start l s = record { within = omega arith; book = refl; rest = λ g r. r; whole = λ r. (refl, r) }
@@ -102,28 +102,28 @@ far-more {l₀} {s} {l} {l′} {good} {good′} {at} {feed} {e} {stop} far h pf 
     let v : drop stop s ≡ afterLine (afterLine t) = after-part s e ps ∙ ap (λ (y : List ℕ). afterLine y) u in
     record {
       within = after-within s e (after-within s at (far .within) pe .1) ps .1;
-      book = far .book ∙ turn-book l t n ∙ sym (ap₂ (λ (m y : List ℕ). bookThrough m (linesOf y)) pl v);
+      book = far .book ∙ turn-book l t n ∙ sym (ap₂ (λ (m y : List ℕ). bookRun m (fedLines y)) pl v);
       rest =
           λ g r.
           let w = x .0 g in
           far .rest (w .1)
           (turn-runs l t n
           (sym (ap (λ (y : List ℕ). firstLine y) u) ∙ sym answer ∙ w .0 ∙ ap (λ (y : List ℕ). answerTo l y) line)
-          (subst (λ (y : List ℕ). Runs (bookAfter l (unfed t)) (linesOf y)) v (subst (λ (m : List ℕ). Runs m (linesOf (drop stop s))) pl r)));
+          (subst (λ (y : List ℕ). Runs (bookAfter l (unfed t)) (fedLines y)) v (subst (λ (m : List ℕ). Runs m (fedLines (drop stop s))) pl r)));
       whole =
           λ r.
           let b = turn-back l t n (far .whole r .1) in (
             x .1 (answer ∙ ap (λ (y : List ℕ). firstLine y) u ∙ b .0 ∙ sym (ap (λ (y : List ℕ). answerTo l y) line), far .whole r .0),
-            subst (λ (m : List ℕ). Runs m (linesOf (drop stop s))) (sym pl)
-                (subst (λ (y : List ℕ). Runs (bookAfter l (unfed t)) (linesOf y)) (sym v) (b .1)),
+            subst (λ (m : List ℕ). Runs m (fedLines (drop stop s))) (sym pl)
+                (subst (λ (y : List ℕ). Runs (bookAfter l (unfed t)) (fedLines y)) (sym v) (b .1)),
           );
     }
 
-pub far-done : {l₀ s l : List ℕ} {good : Bool} {at : ℕ} → Far l₀ s good l at → length s ≤ at → (l ≡ bookThrough l₀ (linesOf s)) × Exactly good (Runs l₀ (linesOf s))
-unfolding bookThrough Runs
+pub far-done : {l₀ s l : List ℕ} {good : Bool} {at : ℕ} → Far l₀ s good l at → length s ≤ at → (l ≡ bookRun l₀ (fedLines s)) × Exactly good (Runs l₀ (fedLines s))
+unfolding bookRun Runs
 far-done {l₀} {s} {l} {good} {at} far h =
-    let none : linesOf (drop at s) ≡ [] = ap (λ (t : List ℕ). linesOf t) (drop-of-length-le s h) ∙ lines-none in (
-      sym (far .book ∙ ap (λ (x : List (List ℕ)). bookThrough l x) none),
+    let none : fedLines (drop at s) ≡ [] = ap (λ (t : List ℕ). fedLines t) (drop-of-length-le s h) ∙ lines-none in (
+      sym (far .book ∙ ap (λ (x : List (List ℕ)). bookRun l x) none),
       (λ g. far .rest g (subst (λ (x : List (List ℕ)). Runs l x) (sym none) tt), λ r. far .whole r .0),
     )
 
@@ -138,13 +138,13 @@ unfolding bookTimes RunsTimes
 rerun-start l ss = record { book = refl; runs = (λ g. tt, λ r. refl) }
 
 pub rerun-more :
-    {l₀ l l′ : List ℕ} {ss : List (List ℕ)} {n : ℕ} {good good′ : Bool} → Rerun l₀ ss n good l → l′ ≡ bookThrough l ss →
+    {l₀ l l′ : List ℕ} {ss : List (List ℕ)} {n : ℕ} {good good′ : Bool} → Rerun l₀ ss n good l → l′ ≡ bookRun l ss →
     Exactly good′ (Runs l ss × (good ≡ true)) → Rerun l₀ ss (n + 1) good′ l′
 unfolding bookTimes RunsTimes
 rerun-more {l₀} {l} {l′} {ss} {n} {good} {good′} a p x =
     rw add-one
     record {
-      book = p ∙ ap (λ (m : List ℕ). bookThrough m ss) (a .book);
+      book = p ∙ ap (λ (m : List ℕ). bookRun m ss) (a .book);
       runs = (
         λ g. (a .runs .0 (x .0 g .1), subst (λ (m : List ℕ). Runs m ss) (a .book) (x .0 g .0)),
         λ r. x .1 (subst (λ (m : List ℕ). Runs m ss) (sym (a .book)) (r .1), a .runs .1 (r .0)),

@@ -17,9 +17,9 @@ onto b [] = (b ∷ []) ∷ []
 onto b (s ∷ ss) = (b ∷ s) ∷ ss
 
 -- each line with its line feed; the last may have none
-unfoldable pub linesOf : List ℕ → List (List ℕ)
-linesOf [] = []
-linesOf (b ∷ t) = pick (eqb b lineFeed) ((b ∷ []) ∷ linesOf t) (onto b (linesOf t))
+unfoldable pub fedLines : List ℕ → List (List ℕ)
+fedLines [] = []
+fedLines (b ∷ t) = pick (eqb b lineFeed) ((b ∷ []) ∷ fedLines t) (onto b (fedLines t))
 
 -- how many bytes stand before the first line feed: all of them where there is none
 unfoldable pub lineSize : List ℕ → ℕ
@@ -43,15 +43,15 @@ Runs l (s ∷ []) = ⊥
 Runs l (s ∷ a ∷ ss) = (a ≡ answerTo l (unfed s)) × Runs (bookAfter l (unfed s)) ss
 
 -- the book after them, whatever their answers are
-unfoldable pub bookThrough : List ℕ → List (List ℕ) → List ℕ
-bookThrough l [] = l
-bookThrough l (s ∷ []) = bookAfter l (unfed s)
-bookThrough l (s ∷ a ∷ ss) = bookThrough (bookAfter l (unfed s)) ss
+unfoldable pub bookRun : List ℕ → List (List ℕ) → List ℕ
+bookRun l [] = l
+bookRun l (s ∷ []) = bookAfter l (unfed s)
+bookRun l (s ∷ a ∷ ss) = bookRun (bookAfter l (unfed s)) ss
 
 -- the book after n runs of the same lines, and that each of them runs
 unfoldable pub bookTimes : ℕ → List ℕ → List (List ℕ) → List ℕ
 bookTimes zero l ss = l
-bookTimes (suc n) l ss = bookThrough (bookTimes n l ss) ss
+bookTimes (suc n) l ss = bookRun (bookTimes n l ss) ss
 
 unfoldable pub RunsTimes : ℕ → List ℕ → List (List ℕ) → Type 0
 RunsTimes zero l ss = Unit {0}

@@ -7,7 +7,7 @@ ghost use Prim.Native.Nat.{_+_, _<_, _≤_};
 ghost use lib.ListN.{length, getD, drop};
 ghost use Rattle.events.specs.Answering.{answerTo, bookAfter};
 ghost use Rattle.reply.specs.Printed.{answerRoom};
-ghost use Rattle.script.specs.Script.{linesOf, lineSize, firstLine, Runs, bookThrough, RunsTimes, bookTimes, Exactly};
+ghost use Rattle.script.specs.Script.{fedLines, lineSize, firstLine, Runs, bookRun, RunsTimes, bookTimes, Exactly};
 
 // The place of the line feed of the line that stands at `at`, or the end of the text.
 fn line_end(s: &[u8], at: usize) -> usize
@@ -48,8 +48,8 @@ fn is_answered(book: &mut [u32], out: &mut [u8], line: &[u8], expected: &[u8]) -
 // All lines of the script are done; whether every one gets its answer. `out` has room for one answer at a time.
 pub fn runs(book: &mut [u32], out: &mut [u8], script: &[u8]) -> bool
     requires { ⌜ answerRoom ≤ length (now out) ⌝ }
-    ensures { λ r. ⌜ now (book .exit) ≡ bookThrough (now (book .entry)) (linesOf (now (script .entry))) ⌝ }
-    ensures { λ r. ⌜ Exactly r (Runs (now (book .entry)) (linesOf (now (script .entry)))) ⌝ }
+    ensures { λ r. ⌜ now (book .exit) ≡ bookRun (now (book .entry)) (fedLines (now (script .entry))) ⌝ }
+    ensures { λ r. ⌜ Exactly r (Runs (now (book .entry)) (fedLines (now (script .entry)))) ⌝ }
 {
     let mut good = true;
     let mut at = 0;
@@ -66,8 +66,8 @@ pub fn runs(book: &mut [u32], out: &mut [u8], script: &[u8]) -> bool
 // The same script again and again, so many times.
 pub fn repeated(book: &mut [u32], out: &mut [u8], script: &[u8], times: usize) -> bool
     requires { ⌜ answerRoom ≤ length (now out) ⌝ }
-    ensures { λ r. ⌜ now (book .exit) ≡ bookTimes times (now (book .entry)) (linesOf (now (script .entry))) ⌝ }
-    ensures { λ r. ⌜ Exactly r (RunsTimes times (now (book .entry)) (linesOf (now (script .entry)))) ⌝ }
+    ensures { λ r. ⌜ now (book .exit) ≡ bookTimes times (now (book .entry)) (fedLines (now (script .entry))) ⌝ }
+    ensures { λ r. ⌜ Exactly r (RunsTimes times (now (book .entry)) (fedLines (now (script .entry)))) ⌝ }
 {
     let mut good = true;
     let mut i = 0;

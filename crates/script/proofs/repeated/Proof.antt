@@ -5,14 +5,14 @@ use native.Mathlib.Omega.{arith}
 use mathlib.Core.Path.{_≡_, refl, _∙_}
 use mathlib.Core.Logic.{⊎-elim}
 use lib.ListN.{length}
-use Rattle.script.specs.Script.{linesOf}
+use Rattle.script.specs.Script.{fedLines}
 use Rattle.script.proofs.ScriptLaws.{exactly-taken, exactly-left, Rerun, rerun-start, rerun-more, rerun-done}
 use borrow.Author.Needs.{needs}
 use Rattle.script.proofs.repeated.Statement.{statement}
 use Rattle.script.proofs.repeated.Tie as tie
 
 abbrev Inv-loop : tie.InvT-loop
-Inv-loop book₀ out₀ script times good₀ i₀ book out good i = (i ≤ times) × (length book ≡ length book₀) × (length out ≡ length out₀) × Rerun book₀ (linesOf script) i good book
+Inv-loop book₀ out₀ script times good₀ i₀ book out good i = (i ≤ times) × (length book ≡ length book₀) × (length out ≡ length out₀) × Rerun book₀ (fedLines script) i good book
 
 abbrev μ-loop : tie.MeasureT-loop
 μ-loop book₀ out₀ script times good₀ i₀ book out good i = times - i
