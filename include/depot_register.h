@@ -202,7 +202,8 @@ uint32_t depot_recover(uint32_t *book, size_t words, const uint8_t *bytes, size_
 uint32_t depot_save_image(const uint32_t *book, size_t words, uint8_t *image, size_t room);
 
 /* Loads an image, any bytes, into the book. Checks: 100 if the book has not DEPOT_BOOK_WORDS words, 112, 1 if the image's
- * book is not fit. What an image says of the past is taken on trust. */
+ * book is not fit. What an image says of the past is taken on trust. The image's words are judged before one of the book moves:
+ * that takes 64 KiB of stack. */
 uint32_t depot_load_image(uint32_t *book, size_t words, const uint8_t *image, size_t length);
 
 /* The calendar: the dates from 1 January 2000, which is day 0, to 31 December 2399. Months are 1 to 12. Any numbers get an

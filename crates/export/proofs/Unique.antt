@@ -2,6 +2,7 @@
 -- Assumes nothing.
 use mathlib.Core.Path.{_∙_, sym}
 use Rattle.loops.specs.Settled.{Settled}
+use Rattle.image.proofs.Unique.{save-unique, load-unique}
 use Rattle.judged.proofs.NumberLaws.{audited-unique}
 use Rattle.events.proofs.answer.answer_line.Kinds as answer-line-kinds
 use Rattle.events.proofs.answer.answer_line.Reads as answer_line
@@ -29,6 +30,10 @@ use Rattle.export.proofs.depot_line.Kinds as line-kinds
 use Rattle.export.proofs.depot_line.Reads as depot_line
 use Rattle.export.proofs.audit.depot_audit.Kinds as audit-kinds
 use Rattle.export.proofs.audit.depot_audit.Reads as depot_audit
+use Rattle.export.proofs.images.depot_save_image.Kinds as save-image-kinds
+use Rattle.export.proofs.images.depot_save_image.Reads as depot_save_image
+use Rattle.export.proofs.images.depot_load_image.Kinds as load-image-kinds
+use Rattle.export.proofs.images.depot_load_image.Reads as depot_load_image
 use Rattle.export.proofs.days.depot_is_date.Kinds as is-date-kinds
 use Rattle.export.proofs.days.depot_is_date.Reads as depot_is_date
 use Rattle.export.proofs.days.depot_day_number.Kinds as day-number-kinds
@@ -76,6 +81,13 @@ greater-unique κs args one other end end′ p q = p ∙ sym q
 
 pub line-unique : Settled 3 line-kinds.ps line-kinds.r depot_line.Learnt
 line-unique κs args one other end end′ p q = p .0 ∙ sym (q .0)
+
+-- images
+pub save-image-unique : Settled 2 save-image-kinds.ps save-image-kinds.r depot_save_image.Learnt
+save-image-unique κs args one other end end′ p q = save-unique p q .0
+
+pub load-image-unique : Settled 2 load-image-kinds.ps load-image-kinds.r depot_load_image.Learnt
+load-image-unique κs args one other end end′ p q = load-unique p q .0
 
 -- the calendar
 pub is-date-unique : Settled 0 is-date-kinds.ps is-date-kinds.r depot_is_date.Learnt

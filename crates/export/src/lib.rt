@@ -2,6 +2,7 @@
 pub mod audit;
 pub mod days;
 pub mod frames;
+pub mod images;
 pub mod moves;
 pub mod pages;
 

@@ -3,50 +3,40 @@
 use Prim.Native.Nat.{ℕ, _+_, _*_, _<_}
 use native.Mathlib.Omega.{arith}
 use mathlib.Core.Path.{_≡_, refl, sym, _∙_, ap, ap₂, subst}
-use mathlib.Core.Bool.{Bool, true, false, _&&_, not, false≢true}
+use mathlib.Core.Bool.{true, false, not}
+use mathlib.Core.Logic.{_↔_}
 use mathlib.Core.List.{List, [], _∷_, _++_}
-use lib.Dec.{eqb, lit<}
+use lib.Dec.{eqb, ltb, lit<}
 use lib.ListN.{length, getD, take, drop, take-append-drop, length-append, length-drop}
 use lib.Seq.{take-all}
-use borrow.Author.Tests.{eqb-true, eq-eqb, not-false}
-use Rattle.loops.specs.Loops.{pick}
-use Rattle.loops.proofs.BoolLaws.{pick-true, pick-false, and-left, and-right, and-intro}
-use Rattle.paper.specs.Calls.{first}
-use Rattle.book.specs.Words.{part}
-use Rattle.book.specs.Layout.{bookWords, countsOf}
+use borrow.Author.Tests.{eqb-true, eq-eqb, ltb-false, not-false}
+use Rattle.loops.proofs.BoolLaws.{pick-true, and-left, and-right, and-intro, not-failed}
+use Rattle.paper.specs.Calls.{here}
+use Rattle.book.specs.Words.{part, put}
+use Rattle.book.specs.Layout.{bookWords}
+use Rattle.book.proofs.WordsLaws.{put-same}
 use Rattle.fit.specs.Fit.{fit}
 use Rattle.register.proofs.Numbers.{first-passed}
-use Rattle.wire.specs.Wire.{byteLimit, wordLimit, Below}
+use Rattle.register.proofs.TableLaws.{says-first}
+use Rattle.wire.specs.Wire.{byteLimit, wordLimit, wordBytes, Below}
 use Rattle.wire.proofs.WireLaws.{Stands, stands-all, stands-left, stands-right, below-more, below-none}
 use Rattle.numbers.specs.Numbers.{bytesOf, wordsAt}
-use Rattle.numbers.proofs.NumberLaws.{length-bytes, length-words, words-stand, bytes-read, words-small, bytes-append}
-use Rattle.image.specs.Image.{imageBytes, imageHead, imageOf, bookIn, same, headRight, saveNumber, loadNumber, loaded, ImageOf}
-
-same-is : (u v : List ℕ) → same u v ≡ true → u ≡ v
-unfolding same
-same-is [] [] h = refl
-same-is [] (b ∷ v) h = absurd (false≢true h)
-same-is (a ∷ u) [] h = absurd (false≢true h)
-same-is (a ∷ u) (b ∷ v) h =
-    ap₂ (λ (x : ℕ) (l : List ℕ). x ∷ l) (eqb-true a b (and-left (eqb a b) (same u v) h)) (same-is u v (and-right (eqb a b) (same u v) h))
-
-same-self : (u : List ℕ) → same u u ≡ true
-unfolding same
-same-self [] = refl
-same-self (a ∷ u) = and-intro (eq-eqb a a refl) (same-self u)
-
-fit-long : (l : List ℕ) → fit l ≡ true → length l ≡ bookWords
-unfolding fit
-fit-long l h = eqb-true _ _ (and-left (eqb (length l) bookWords) _ h)
-
-head-long : (l : List ℕ) → length (imageHead l) ≡ 8
-unfolding imageHead
-head-long l = refl
-
-not-true : {b : Bool} → b ≡ true → not b ≡ false
-not-true h = ap not h
+use Rattle.numbers.proofs.NumberLaws.{length-bytes, words-stand, bytes-read, words-small, bytes-append}
+use Rattle.image.specs.Image.{imageBytes, imageHead, imageOf, bookIn, same, headRight, saveNumber, loadNumber, saved, loaded, ImageOf}
+use Rattle.image.proofs.ImageLaws.{fit-long, head-long, same-is, same-self, accepts}
 
 -- ---- the image of a book of words
+
+-- an example, the one of docs/JOURNAL.md: the header of two depots with two shelves each, four bearings and two crews
+pub a-header :
+    (l : List ℕ) → bytesOf (imageHead (2 ∷ 2 ∷ 4 ∷ 2 ∷ l))
+    ≡ 73 ∷ 77 ∷ 71 ∷ 49 ∷ 2 ∷ 0 ∷ 0 ∷ 0 ∷ 2 ∷ 0 ∷ 0 ∷ 0 ∷ 4 ∷ 0 ∷ 0 ∷ 0 ∷ 2 ∷ 0 ∷ 0 ∷ 0 ∷ 0 ∷ 64 ∷ 0 ∷ 0 ∷ 32 ∷ 0 ∷ 0 ∷ 0 ∷ 32 ∷ 0 ∷ 1 ∷ 0 ∷ []
+unfolding imageHead bytesOf wordBytes
+a-header l = refl
+
+image-long : (l : List ℕ) → length l ≡ bookWords → length (imageOf l) ≡ imageBytes
+unfolding imageOf
+image-long l h = length-bytes (imageHead l ++ l) ∙ omega (arith, length-append (imageHead l) l, head-long l)
 
 module _ (l : List ℕ) (w : Below wordLimit l) where
   head-small : Below wordLimit (imageHead l)
@@ -77,23 +67,16 @@ module _ (l : List ℕ) (w : Below wordLimit l) where
     unfolding bookIn
     book-back = ap (wordsAt (imageOf l) 32) (sym h) ∙ words-stand (imageOf l) 32 l w book-stands
 
-    image-long : length (imageOf l) ≡ imageBytes
-    unfolding imageOf
-    image-long = length-bytes (imageHead l ++ l) ∙ omega (arith, length-append (imageHead l) l, head-long l)
-
     header-back : headRight (imageOf l) ≡ true
     unfolding headRight
-    header-back = and-intro (eq-eqb _ _ image-long) (ap₂ same head-back (ap imageHead book-back) ∙ same-self (imageHead l))
+    header-back = and-intro (eq-eqb _ _ (image-long l h)) (ap₂ same head-back (ap imageHead book-back) ∙ same-self (imageHead l))
 
   -- it loads as that book, into whatever stood there
   pub image-back : fit l ≡ true → (m : List ℕ) → length m ≡ bookWords → (loadNumber (imageOf l) (length m) ≡ 0) × (loaded (imageOf l) m ≡ l)
-  unfolding loadNumber loaded first
+  unfolding loaded
   image-back g m long =
       let h = fit-long l g in
-      let a : not (eqb (length m) bookWords) ≡ false = not-true (eq-eqb _ _ long) in
-      let b : not (headRight (imageOf l)) ≡ false = not-true (header-back h) in
-      let c : not (fit (bookIn (imageOf l))) ≡ false = not-true (ap fit (book-back h) ∙ g) in
-      let z : loadNumber (imageOf l) (length m) ≡ 0 = pick-false _ _ a ∙ pick-false _ _ b ∙ pick-false _ _ c in
+      let z = accepts (imageOf l) (length m) long (header-back h) (ap fit (book-back h) ∙ g) in
       (z, pick-true _ _ (eq-eqb _ _ z) ∙ book-back h)
 
 -- two books with one image are the same
@@ -123,22 +106,52 @@ book-small : (f : List ℕ) → Below byteLimit f → Below wordLimit (bookIn f)
 unfolding bookIn
 book-small f b = words-small f 32 bookWords b
 
+-- a book of the right length is lent, the header is right and the image's book is fit: exactly then an image is accepted
+pub accepted-exactly : (f : List ℕ) (n : ℕ) → (loadNumber f n ≡ 0) ↔ ((n ≡ bookWords) × (headRight f ≡ true) × (fit (bookIn f) ≡ true))
+accepted-exactly f n = (passed f n, λ h. accepts f n (h .0) (h .1) (h .2))
+  where
+    passed : (f : List ℕ) (n : ℕ) → loadNumber f n ≡ 0 → (n ≡ bookWords) × (headRight f ≡ true) × (fit (bookIn f) ≡ true)
+    passed f n z = unfold loadNumber in
+        let p = first-passed (not (eqb n bookWords)) 100 _ (omega arith) z in
+        let q = first-passed (not (headRight f)) 112 _ (omega arith) (p .1) in
+        let r = first-passed (not (fit (bookIn f))) 1 _ (omega arith) (q .1) in
+        (eqb-true _ _ (not-false _ (p .0)), not-false _ (q .0), not-false _ (r .0))
+
 -- bytes that are accepted are the image of a fit book, and that is what they load as
 pub image-only : (f l : List ℕ) → Below byteLimit f → loadNumber f (length l) ≡ 0 → ImageOf f (loaded f l)
-unfolding loadNumber headRight
+unfolding headRight
 image-only f l b z =
-    let p = first-passed (not (eqb (length l) bookWords)) 100 _ (omega arith) z in
-    let q = first-passed (not (headRight f)) 112 _ (omega arith) (p .1) in
-    let r = first-passed (not (fit (bookIn f))) 1 _ (omega arith) (q .1) in
-    let h : headRight f ≡ true = not-false _ (q .0) in
-    let long = eqb-true (length f) imageBytes (and-left (eqb (length f) imageBytes) (same (wordsAt f 0 8) (imageHead (bookIn f))) h) in
-    let heads = same-is _ _ (and-right (eqb (length f) imageBytes) (same (wordsAt f 0 8) (imageHead (bookIn f))) h) in
+    let a = accepted-exactly f (length l) .0 z in
+    let long = eqb-true (length f) imageBytes (and-left (eqb (length f) imageBytes) (same (wordsAt f 0 8) (imageHead (bookIn f))) (a .1)) in
+    let heads = same-is _ _ (and-right (eqb (length f) imageBytes) (same (wordsAt f 0 8) (imageHead (bookIn f))) (a .1)) in
     subst (ImageOf f) (sym (is-loaded f l z))
-    (record { image = is-image f b long heads; fits = not-false _ (r .0); words = book-small f b })
+    (record { image = is-image f b long heads; fits = a .2; words = book-small f b })
 
 -- ---- saving
 
 -- an unfit book is refused
 pub unfit-refused : (l : List ℕ) (n : ℕ) → fit l ≡ false → saveNumber l n ≡ 1
-unfolding saveNumber first
-unfit-refused l n h = pick-true _ _ (ap not h)
+unfolding saveNumber
+unfit-refused l n h = says-first (here (not-failed h))
+
+module _ (l o : List ℕ) (z : saveNumber l (length o) ≡ 0) where
+  -- what is saved is fit and has room, and its image stands in the buffer from the first byte on
+  pub save-fit : fit l ≡ true
+  unfolding saveNumber
+  save-fit = not-false _ (first-passed (not (fit l)) 1 _ (omega arith) z .0)
+
+  pub saved-image : take imageBytes (saved l o) ≡ imageOf l
+  unfolding saveNumber saved part
+  saved-image =
+      let p = first-passed (not (fit l)) 1 _ (omega arith) z in
+      let q = first-passed (ltb (length o) imageBytes) 100 _ (omega arith) (p .1) in
+      let long = image-long l (fit-long l save-fit) in
+      ap (take imageBytes) (pick-true _ _ (eq-eqb _ _ z))
+      ∙ ap (λ (n : ℕ). take n (put o 0 (imageOf l))) (sym long)
+      ∙ put-same o 0 (imageOf l) (omega (arith, ltb-false (length o) imageBytes (q .0), long))
+
+  -- and it loads as the book that was saved
+  pub saved-back :
+      Below wordLimit l → (m : List ℕ) → length m ≡ bookWords → (loadNumber (take imageBytes (saved l o)) (length m) ≡ 0) × (loaded (take imageBytes (saved l o)) m ≡ l)
+  saved-back w m long =
+      subst (λ (f : List ℕ). (loadNumber f (length m) ≡ 0) × (loaded f m ≡ l)) (sym saved-image) (image-back l w save-fit m long)

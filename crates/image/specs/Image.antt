@@ -8,6 +8,7 @@ use lib.Dec.{eqb, ltb}
 use lib.ListN.{length}
 use Rattle.loops.specs.Loops.{pick}
 use Rattle.paper.specs.Calls.{first}
+use Rattle.room.specs.Room.{noRoom}
 use Rattle.book.specs.Words.{put}
 use Rattle.book.specs.Layout.{bookWords, countsOf}
 use Rattle.fit.specs.Fit.{fit}
@@ -17,6 +18,10 @@ use Rattle.numbers.specs.Numbers.{bytesOf, wordsAt}
 -- how many bytes an image has
 abbrev pub imageBytes : ℕ
 imageBytes = 65568
+
+-- the number for bytes that are no image
+abbrev pub badImage : ℕ
+badImage = 112
 
 -- "IMG1"; the four counts; how many words the book has, where it begins and where it ends
 unfoldable pub imageHead : List ℕ → List ℕ
@@ -44,11 +49,11 @@ headRight f = eqb (length f) imageBytes && same (wordsAt f 0 8) (imageHead (book
 
 -- the number of saving the book l into room for n bytes
 unfoldable pub saveNumber : List ℕ → ℕ → ℕ
-saveNumber l n = first ((not (fit l), 1) ∷ (ltb n imageBytes, 100) ∷ [])
+saveNumber l n = first ((not (fit l), 1) ∷ (ltb n imageBytes, noRoom) ∷ [])
 
 -- and of loading the bytes f into a book of n words
 unfoldable pub loadNumber : List ℕ → ℕ → ℕ
-loadNumber f n = first ((not (eqb n bookWords), 100) ∷ (not (headRight f), 112) ∷ (not (fit (bookIn f)), 1) ∷ [])
+loadNumber f n = first ((not (eqb n bookWords), noRoom) ∷ (not (headRight f), badImage) ∷ (not (fit (bookIn f)), 1) ∷ [])
 
 -- the buffer o after the book l is saved into it
 unfoldable pub saved : List ℕ → List ℕ → List ℕ
@@ -63,3 +68,15 @@ pub record ImageOf (f l : List ℕ) : Type 0 where
   pub image : f ≡ imageOf l
   pub fits : fit l ≡ true
   pub words : Below wordLimit l
+
+-- ---- the promises
+
+-- saving the book l into the buffer o answers r and leaves the buffer o′
+pub record Saving (l o : List ℕ) (r : ℕ) (o′ : List ℕ) : Type 0 where
+  pub answer : r ≡ saveNumber l (length o)
+  pub buffer : o′ ≡ saved l o
+
+-- loading the bytes f into the book l answers r and leaves the book l′
+pub record Loading (l f : List ℕ) (r : ℕ) (l′ : List ℕ) : Type 0 where
+  pub answer : r ≡ loadNumber f (length l)
+  pub book : l′ ≡ loaded f l

@@ -7,15 +7,15 @@ use mathlib.Core.Path.{_≡_, refl, sym, _∙_, ap, ap₂, subst}
 use mathlib.Core.Logic.{⊎-elim}
 use mathlib.Core.Option.{Option, some}
 use mathlib.Core.List.{List, [], _∷_, _++_, append-assoc, append-nil}
-use lib.ListN.{length, getD, take, drop, length-append, length-drop, take-append-drop}
+use lib.ListN.{length, take, drop, length-append, length-drop, take-append-drop}
 use lib.Seq.{length-take-le}
 use Rattle.loops.proofs.BoolLaws.{le-or-lt, eq-or-ne}
 use Rattle.upkeep.specs.Requests.{Request, numberAt, bookAfter, last}
-use Rattle.wire.specs.Wire.{byteLimit, wordLimit, Below}
+use Rattle.wire.specs.Wire.{byteLimit, Below}
 use Rattle.numbers.proofs.NumberLaws.{below-drop}
 use Rattle.journal.specs.declared.record.Kind.{Kind}
 use Rattle.journal.specs.declared.recover.Fault.the-variants.{Refused, Strange}
-use Rattle.journal.specs.Record.{kindOf, numbersOf, recordBytes, requestIn, size}
+use Rattle.journal.specs.Record.{kindOf, recordBytes, requestIn, size}
 use Rattle.journal.specs.Journal.{journal, Done, none, more, Recovered, within, stopped, start, replay}
 use Rattle.journal.specs.Journal.{Ended, ends-whole, ends-cut, ends-refused, ends-strange, Told}
 use Rattle.journal.proofs.RecordLaws.{size-some, whole-record, whole-words}

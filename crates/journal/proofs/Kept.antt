@@ -1,16 +1,15 @@
 -- A call that is done with its record is kept: the journal with the record behind it recovers as the book after the call. A refused one leaves nothing.
 -- Assumes nothing.
-use Prim.Native.Nat.{ℕ, _+_, _≤_, _<_}
+use Prim.Native.Nat.{ℕ, _+_, _≤_}
 use native.Mathlib.Omega.{arith}
-use mathlib.Core.Path.{_≡_, refl, sym, _∙_, ap, ap₂}
+use mathlib.Core.Path.{_≡_, sym, _∙_, ap, ap₂}
 use mathlib.Core.Logic.{⊎-elim}
 use mathlib.Core.Bool.{true, false}
 use mathlib.Core.List.{List, [], _++_, append-nil}
-use lib.Dec.{eqb, ltb}
-use lib.ListN.{length, take, drop}
+use lib.Dec.{ltb}
+use lib.ListN.{length, take}
 use lib.Seq.{sets-eq, take-append-seam}
 use borrow.Author.Tests.{eq-eqb, ne-eqb, ltb-false}
-use Rattle.loops.specs.Loops.{pick}
 use Rattle.loops.proofs.BoolLaws.{decided, pick-true, pick-false}
 use Rattle.book.specs.Words.{put}
 use Rattle.upkeep.specs.Requests.{Request, numberAt, bookAfter, last}

@@ -4,6 +4,8 @@ pub mod ByRecord
 pub mod Cuts
 pub mod Theorems
 pub mod Histories
+pub mod Pieces
 pub mod OneJournal
+pub mod ZeroStart
 pub mod Kept
 pub mod Worked

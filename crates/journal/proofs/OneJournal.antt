@@ -13,7 +13,7 @@ use Rattle.wire.specs.Wire.{byteLimit, wordLimit, Below}
 use Rattle.wire.proofs.WireLaws.{below-none, below-more}
 use Rattle.numbers.proofs.NumberLaws.{below-append, bytes-small}
 use Rattle.journal.specs.declared.record.Kind.{Kind}
-use Rattle.journal.specs.Record.{byteOf, kindOf, Form, plain, counted, formOf, kindIn, numbersOf, countBy, headOf, recordBytes, requestIn}
+use Rattle.journal.specs.Record.{kindOf, Form, plain, counted, formOf, kindIn, numbersOf, countBy, headOf, recordBytes, requestIn}
 use Rattle.journal.specs.Journal.{journal, Done, none, more}
 use Rattle.journal.proofs.ByKind.{byte-small, numbers-few}
 use Rattle.journal.proofs.RecordLaws.{size-some, record-kind, record-size, record-asks}

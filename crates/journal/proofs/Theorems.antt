@@ -4,7 +4,7 @@
 use Prim.Native.Nat.{ℕ, zero, suc, _+_, _-_, _≤_, _<_}
 use native.Mathlib.Omega.{arith}
 use native.Mathlib.Nat.{add-zero, zero-add}
-use mathlib.Core.Path.{_≡_, refl, sym, _∙_, ap, ap₂}
+use mathlib.Core.Path.{_≡_, sym, _∙_, ap, ap₂}
 use mathlib.Core.Logic.{⊎-elim}
 use mathlib.Core.Bool.{true, false}
 use mathlib.Core.Option.{Option}
@@ -13,14 +13,13 @@ use lib.Dec.{leb}
 use lib.ListN.{length, take, drop, length-append}
 use lib.Seq.{take-append-le, take-append-seam, drop-append-seam, length-take-le}
 use borrow.Author.Tests.{leb-false}
-use Rattle.loops.specs.Loops.{pick}
 use Rattle.loops.proofs.BoolLaws.{decided, pick-true, pick-false}
 use Rattle.upkeep.specs.Requests.{Request, numberAt, bookAfter, last}
 use Rattle.wire.specs.Wire.{wordLimit, Below}
 use Rattle.journal.specs.declared.recover.Fault.the-variants.{Refused, Strange}
 use Rattle.journal.specs.Record.{kindOf, size, kindIn, numbersOf, recordBytes, requestIn}
 use Rattle.journal.specs.Journal.{journal, Done, none, more, wholeIn, restIn, within, stopped, start, replay}
-use Rattle.journal.proofs.RecordLaws.{record-kind, record-size, record-asks}
+use Rattle.journal.proofs.RecordLaws.{record-few, record-kind, record-size, record-asks}
 use Rattle.journal.proofs.ByRecord.{by-none, by-strange, by-part, by-done, by-refused}
 use Rattle.journal.proofs.Cuts.{cut-bytes, cut-within}
 
@@ -107,6 +106,21 @@ recovers-cut c {l} {rs} d =
     ∙ recovers-then (done-take (wholeIn c rs) d) (restIn c rs)
     ∙ rest-waits (last l before) (length before) (length (journal before)) c rs
     ∙ ap (λ (n : ℕ). within (last l before) n (length (journal before)) (restIn c rs)) (length-take-le (wholeIn c rs) rs (cut-within c rs))
+
+-- and what is cut off is less than a record, so at most 81 bytes
+pub cut-few : (c : ℕ) {l : List ℕ} {rs : List Request} → Done l rs → length (restIn c rs) ≤ 81
+unfolding restIn
+cut-few c none = omega arith
+cut-few c {l} (more {r = r} {rs = rs} b z d) =
+    let few : length (recordBytes r) ≤ 82 = record-few l r z in
+    ⊎-elim
+    (λ (h : leb (length (recordBytes r)) c ≡ true).
+    rw (pick-true (restIn (c - length (recordBytes r)) rs) (take c (recordBytes r)) h) (cut-few (c - length (recordBytes r)) d))
+    (λ (h : leb (length (recordBytes r)) c ≡ false).
+    let s : c < length (recordBytes r) = leb-false (length (recordBytes r)) c h in
+    rw (pick-false (restIn (c - length (recordBytes r)) rs) (take c (recordBytes r)) h)
+    (omega (arith, length-take-le c (recordBytes r) (omega arith))))
+    (decided (leb (length (recordBytes r)) c))
 
 -- ---- faults
 

@@ -5,8 +5,9 @@ use mathlib.Core.Path.{_≡_}
 use mathlib.Core.Option.{Option, some}
 use mathlib.Core.List.{List, [], _∷_, _++_}
 use lib.Dec.{eqb, leb}
-use lib.ListN.{length, take}
+use lib.ListN.{length, take, replicate}
 use Rattle.loops.specs.Loops.{pick}
+use Rattle.book.specs.Layout.{bookWords}
 use Rattle.upkeep.specs.Requests.{Request, numberAt, bookAfter, last}
 use Rattle.wire.specs.Wire.{wordLimit, Below}
 use Rattle.journal.specs.declared.record.Kind.{Kind}
@@ -53,6 +54,10 @@ within l n m p = record { book = l; done = n; bytes = m; rest = p; fault = Fine 
 abbrev pub stopped : List ℕ → ℕ → ℕ → List ℕ → Fault → Recovered
 stopped l n m p e = record { book = l; done = n; bytes = m; rest = p; fault = e }
 
+-- without an image recovery starts from the book of zeros
+abbrev pub zeroBook : List ℕ
+zeroBook = replicate bookWords 0
+
 -- before the first byte
 abbrev pub start : List ℕ → Recovered
 start l = within l 0 0 []
@@ -87,6 +92,10 @@ endBy Strange p = 110
 
 unfoldable pub endOf : Recovered → ℕ
 endOf s = endBy (s .fault) (s .rest)
+
+-- the same, n records of m bytes further on
+unfoldable pub further : ℕ → ℕ → Recovered → Recovered
+further n m s = record { book = s .book; done = n + s .done; bytes = m + s .bytes; rest = s .rest; fault = s .fault }
 
 -- ---- whatever the bytes are
 

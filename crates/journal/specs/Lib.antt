@@ -1,3 +1,4 @@
 pub mod Record
 pub mod Journal
 pub mod Recording
+pub mod Worked

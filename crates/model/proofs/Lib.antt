@@ -19,6 +19,7 @@ pub mod Demand2
 pub mod Dated
 pub mod Limits
 pub mod Linked
+pub mod Coming
 pub mod Links
 pub mod Refreshes
 pub mod Ticks

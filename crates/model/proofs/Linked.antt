@@ -48,6 +48,16 @@ left-again f g more (w ∷ l) = ⊎-elim
     (λ (e : f w ≡ false). rw e (ap (λ r. pick (g w) r (w ∷ r)) (left-again f g more l)))
     (decided (f w))
 
+pub passing-both : (f : Write → Bool) (a b : List Write) → passing f (a ++ b) ≡ passing f a ++ passing f b
+unfolding passing pick
+passing-both f [] b = refl
+passing-both f (w ∷ a) b = ⊎-elim (λ (e : f w ≡ true). rw e (ap (λ l. w ∷ l) (passing-both f a b))) (λ (e : f w ≡ false). rw e (passing-both f a b)) (decided (f w))
+
+pub passing-none : (f : Write → Bool) (l : List Write) → ((w : Write) → List·Memᴰ w l → f w ≡ false) → passing f l ≡ []
+unfolding passing pick
+passing-none f [] h = refl
+passing-none f (w ∷ l) h = rw (h w (List·Memᴰ·head refl)) (passing-none f l (λ v m. h v (List·Memᴰ·tail m)))
+
 pub passing-counts : (f : Write → Bool) (l : List Write) → length l ≡ length (passing f l) + length (left f l)
 unfolding left passing pick
 passing-counts f [] = refl

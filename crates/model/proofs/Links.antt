@@ -20,18 +20,20 @@ use Rattle.model.specs.Parts.{Counts, Version, Write, Message, copy, Sta
 use Rattle.model.specs.Rules.{clear, left, heldOf, copies}
 use Rattle.model.specs.Calls.{setup, shelfOf, made, refusal}
 use Rattle.model.specs.System.{ofModel, run}
-use Rattle.model.specs.Demands.{Wrote, Made, AtLeast}
+use Rattle.model.specs.Demands.{AtLeast, Wrote, Got, Made, NotInvented, ReadAnswers, Demand2}
 use Rattle.model.specs.Demands as demands
-use Rattle.model.specs.Links.{passing, From, Sent, begin, more, same, coveredAt, Lossless, Bare, NothingLost}
+use Rattle.model.specs.Links.{passing, Accepted, Sent, begin, more, same, From, coveredAt, Lossless, Bare, NothingLost}
 use Rattle.model.proofs.Places.{Other}
 use Rattle.model.proofs.Showing.{AtMost, left-from}
 use Rattle.model.proofs.Chains.{chain-member}
 use Rattle.model.proofs.Invariant.{Stands, stored, held, coming, ShelfSound, Sound, unwritten-zeros}
 use Rattle.model.proofs.Taking.{heldOf-from, heldOf-has}
-use Rattle.model.proofs.Refusals.{SetUp, set-up, shelf-below}
-use Rattle.model.proofs.Histories.{made-more, made-cases, made-never, wrote-same, inv}
-use Rattle.model.proofs.Unique.{at-least}
-use Rattle.model.proofs.Linked.{puts, putIn, Linked, left-both, left-none, passing-counts, coming-hidden, history-linked}
+use Rattle.model.proofs.Refusals.{SetUp, set-up, read-passed, list-passed, shelf-below}
+use Rattle.model.proofs.Histories.{made-more, made-cases, made-never, inv, history-grows}
+use Rattle.model.proofs.Unique.{wrote-one, at-least}
+use Rattle.model.proofs.Demand2.{demand2}
+use Rattle.model.proofs.Linked.{puts, putIn, Linked, left-both, left-none, passing-both, passing-none, passing-counts, coming-hidden, history-linked}
+use Rattle.model.proofs.Coming.{comes-taken, comes-on}
 
 copies-from : {w : Write} (l : List Message) → List·Memᴰ w (copies l) → List·Memᴰ (copy w) l
 unfolding copies
@@ -44,79 +46,95 @@ copies-has [] i = absurd (List·Memᴰ·not-nil i)
 copies-has {w} (m ∷ l) i = ⊎-elim (λ (e : copy w ≡ m). Memᴰ·append-left (copies l) (heldOf-has m e)) (λ (i : List·Memᴰ (copy w) l). Memᴰ·append-right (heldOf m) (copies-has l i)) (List·Memᴰ·cases-cons i)
 
 module _ (π : Counts) (homes : List ℕ) where
-  -- a call makes one write at most
-  wrote-one : {h : List Call} {q : Call} {b c : ℕ} {v w : Write} → Wrote (ofModel π homes) h q b v → Wrote (ofModel π homes) h q c w → v ≡ w
-  wrote-one {h} {q} {b} {c} {v} {w} s t =
-      let one = wrote-same π homes (subst (λ q. Wrote (ofModel π homes) h q b v) (s .makes .1) s) in
-      let two = wrote-same π homes (subst (λ q. Wrote (ofModel π homes) h q c w) (s .makes .1) t) in
-      one ∙ sym two
+  -- an accepted write of a shelf makes its version there, and a version that was made there is an accepted write's
+  accepted-from : {h : List Call} {q : Call} {o s : ℕ} {w : Write} (a : Accepted π (ofModel π homes) h q o s) → Wrote (ofModel π homes) h q (a .crew) w → From π (ofModel π homes) o s w
+  unfolding made
+  accepted-from {w = w} a t =
+      let one = a .asked in let two = t .makes .1 in let bearing : w .bearing ≡ a .bearing = cc in
+      (ap (λ (v : Version). v .origin) (t .makes .2) ∙ a .home, ap (shelfOf π) bearing ∙ a .shelf)
+
+  from-accepted : {h : List Call} {q : Call} {o s c : ℕ} {w : Write} → Wrote (ofModel π homes) h q c w → From π (ofModel π homes) o s w → Accepted π (ofModel π homes) h q o s
+  unfolding made
+  from-accepted {c = c} {w = w} t f = record {
+    crew = c;
+    bearing = w .bearing;
+    payload = t .makes .0;
+    asked = t .makes .1;
+    passed = t .passed;
+    home = sym (ap (λ (v : Version). v .origin) (t .makes .2)) ∙ f .0;
+    shelf = f .1;
+  }
 
   sent-one : {o s : ℕ} {h : List Call} {l m : List Write} → Sent π (ofModel π homes) o s h l → Sent π (ofModel π homes) o s h m → l ≡ m
   sent-one begin begin = refl
-  sent-one (more a t f) (more b u g) = ap₂ (λ (x : List Write) (y : Write). x ++ (y ∷ [])) (sent-one a b) (wrote-one t u)
-  sent-one (more a t f) (same b n) = absurd (n _ _ t f)
-  sent-one (same a n) (more b u g) = absurd (n _ _ u g)
-  sent-one (same a n) (same b m) = sent-one a b
+  sent-one (more a b t) (more x y u) = ap₂ (λ (x : List Write) (y : Write). x ++ (y ∷ [])) (sent-one a x) (wrote-one π homes t u)
+  sent-one (more a b t) (same x n) = absurd (n b)
+  sent-one (same a n) (more x y u) = absurd (n y)
+  sent-one (same a n) (same x m) = sent-one a x
 
   sent-from : {o s : ℕ} {h : List Call} {l : List Write} {w : Write} → Sent π (ofModel π homes) o s h l → List·Memᴰ w l → Made (ofModel π homes) h w × From π (ofModel π homes) o s w
   sent-from begin i = absurd (List·Memᴰ·not-nil i)
-  sent-from {o} {s} {w = w} (more {h = h} {l = l} {q = q} {c = c} {w = v} a t f) i = ⊎-elim
+  sent-from {o} {s} {w = w} (more {h = h} {l = l} {q = q} {w = v} a b t) i = ⊎-elim
       (λ i. let p = sent-from a i in (made-more π homes w (p .0), p .1))
-      (λ i. subst (λ w. Made (ofModel π homes) (q ∷ h) w × From π (ofModel π homes) o s w) (sym (List·Memᴰ·eq-of-singleton i)) (record { before = h; author = c; at = demands.now t }, f))
+      (λ i. subst (λ w. Made (ofModel π homes) (q ∷ h) w × From π (ofModel π homes) o s w) (sym (List·Memᴰ·eq-of-singleton i))
+      (record { before = h; author = b .crew; at = demands.now t }, accepted-from b t))
       (List·Memᴰ·append-cases l i)
   sent-from {w = w} (same a n) i = let p = sent-from a i in (made-more π homes w (p .0), p .1)
 
   sent-has : {o s : ℕ} {h : List Call} {l : List Write} {w : Write} → Sent π (ofModel π homes) o s h l → Made (ofModel π homes) h w → From π (ofModel π homes) o s w → List·Memᴰ w l
   sent-has begin m f = absurd (made-never π homes m)
-  sent-has (more {l = l} a t g) m f = ⊎-elim
-      (λ u. Memᴰ·append-right l (List·Memᴰ·head (wrote-one (u .1) t)))
+  sent-has (more {l = l} a b t) m f = ⊎-elim
+      (λ u. Memᴰ·append-right l (List·Memᴰ·head (wrote-one π homes (u .1) t)))
       (λ m. Memᴰ·append-left _ (sent-has a m f))
       (made-cases π homes m)
-  sent-has (same a n) m f = ⊎-elim (λ u. absurd (n _ _ (u .1) f)) (λ m. sent-has a m f) (made-cases π homes m)
+  sent-has (same a n) m f = ⊎-elim (λ u. absurd (n (from-accepted (u .1) f))) (λ m. sent-has a m f) (made-cases π homes m)
 
   -- what a call puts on a link is what it wrote there
-  none-put : {h : List Call} {q : Call} {o s : ℕ} {l : List Write} → Sent π (ofModel π homes) o s h l → ((c : ℕ) (w : Write) → Wrote (ofModel π homes) h q c w → From π (ofModel π homes) o s w → ⊥)
-      → Sent π (ofModel π homes) o s (q ∷ h) (l ++ [])
+  none-put : {h : List Call} {q : Call} {o s : ℕ} {l : List Write} → Sent π (ofModel π homes) o s h l → (Accepted π (ofModel π homes) h q o s → ⊥) → Sent π (ofModel π homes) o s (q ∷ h) (l ++ [])
   none-put {o = o} {s = s} {l = l} t n = subst (Sent π (ofModel π homes) o s _) (sym (append-nil l)) (same t n)
 
   one-put : (h : List Call) (q : Call) (o s : ℕ) (l : List Write) → refusal π (run π homes h) q ≡ 0 → Sent π (ofModel π homes) o s h l → Sent π (ofModel π homes) o s (q ∷ h) (l ++ puts π (run π homes h) q o s)
   unfolding puts
-  one-put h (read c k) o s l e t = none-put t (λ b w u f. let call = u .makes .1 in let n : _≡_ {A = ℕ} 0 1 = cc in omega arith)
-  one-put h (tick d r) o s l e t = none-put t (λ b w u f. let call = u .makes .1 in let n : _≡_ {A = ℕ} 0 1 = cc in omega arith)
-  one-put h (take d r p) o s l e t = none-put t (λ b w u f. let call = u .makes .1 in let n : _≡_ {A = ℕ} 0 1 = cc in omega arith)
-  one-put h (refresh d r) o s l e t = none-put t (λ b w u f. let call = u .makes .1 in let n : _≡_ {A = ℕ} 0 1 = cc in omega arith)
-  one-put h (move c d) o s l e t = none-put t (λ b w u f. let call = u .makes .1 in let n : _≡_ {A = ℕ} 0 1 = cc in omega arith)
-  one-put h (list c ks) o s l e t = none-put t (λ b w u f. let call = u .makes .1 in let n : _≡_ {A = ℕ} 0 1 = cc in omega arith)
+  one-put h (read c k) o s l e t = none-put t (λ a. let call = a .asked in let n : _≡_ {A = ℕ} 0 1 = cc in omega arith)
+  one-put h (tick d r) o s l e t = none-put t (λ a. let call = a .asked in let n : _≡_ {A = ℕ} 0 1 = cc in omega arith)
+  one-put h (take d r p) o s l e t = none-put t (λ a. let call = a .asked in let n : _≡_ {A = ℕ} 0 1 = cc in omega arith)
+  one-put h (refresh d r) o s l e t = none-put t (λ a. let call = a .asked in let n : _≡_ {A = ℕ} 0 1 = cc in omega arith)
+  one-put h (move c d) o s l e t = none-put t (λ a. let call = a .asked in let n : _≡_ {A = ℕ} 0 1 = cc in omega arith)
+  one-put h (list c ks) o s l e t = none-put t (λ a. let call = a .asked in let n : _≡_ {A = ℕ} 0 1 = cc in omega arith)
   one-put h (write c k p) o s l e t = ⊎-elim
       (λ (y : here ≡ true). subst (λ x. Sent π (ofModel π homes) o s (write c k p ∷ h) (l ++ x)) (sym (pick-true _ _ y))
-      (more t mine (is-from y)))
+      (more t (mine y) (record { passed = e; makes = (p, refl, refl) })))
       (λ (y : here ≡ false). subst (λ x. Sent π (ofModel π homes) o s (write c k p ∷ h) (l ++ x)) (sym (pick-false _ _ y))
-      (none-put t (λ b w u f. both-ways (not-from (subst (From π (ofModel π homes) o s) (wrote-one u mine) f)) y)))
+      (none-put t (λ a. both-ways (is-here a) y)))
       (decided here)
     where
       here : Bool
       here = eqb o (run π homes h .home c) && eqb s (shelfOf π k)
 
-      new : Write
-      new = record { bearing = k; version = made π c k p (run π homes h) }
+      mine : here ≡ true → Accepted π (ofModel π homes) h (write c k p) o s
+      mine y = record {
+        crew = c;
+        bearing = k;
+        payload = p;
+        asked = refl;
+        passed = e;
+        home = sym (eqb-true o _ (and-left (eqb o (run π homes h .home c)) (eqb s (shelfOf π k)) y));
+        shelf = sym (eqb-true s _ (and-right (eqb o (run π homes h .home c)) (eqb s (shelfOf π k)) y));
+      }
 
-      mine : Wrote (ofModel π homes) h (write c k p) c new
-      mine = record { passed = e; makes = (p, refl, refl) }
+      is-here : Accepted π (ofModel π homes) h (write c k p) o s → here ≡ true
+      is-here a =
+          let call = a .asked in let crew : c ≡ a .crew = cc in let bearing : k ≡ a .bearing = cc in
+          and-intro (eq-eqb o _ (sym (ap (run π homes h .home) crew ∙ a .home))) (eq-eqb s _ (sym (ap (shelfOf π) bearing ∙ a .shelf)))
 
-      is-from : here ≡ true → From π (ofModel π homes) o s new
-      is-from y = unfold made in (sym (eqb-true o _ (and-left (eqb o (run π homes h .home c)) (eqb s (shelfOf π k)) y)), sym (eqb-true s _ (and-right (eqb o (run π homes h .home c)) (eqb s (shelfOf π k)) y)))
-
-      not-from : From π (ofModel π homes) o s new → here ≡ true
-      not-from f = unfold made in and-intro (eq-eqb o _ (sym (f .0))) (eq-eqb s _ (sym (f .1)))
-
-  sent-is : (h : List Call) (o s : ℕ) → Sent π (ofModel π homes) o s h (putIn π homes h o s)
+  pub sent-is : (h : List Call) (o s : ℕ) → Sent π (ofModel π homes) o s h (putIn π homes h o s)
   unfolding putIn
   sent-is [] o s = begin
   sent-is (q ∷ h) o s = ⊎-elim
       (λ (e : refusal π (run π homes h) q ≡ 0). subst (λ x. Sent π (ofModel π homes) o s (q ∷ h) (putIn π homes h o s ++ x)) (sym (pick-true _ _ (eq-eqb _ _ e)))
       (one-put h q o s _ e (sent-is h o s)))
       (λ (e : refusal π (run π homes h) q ≡ 0 → ⊥). subst (λ x. Sent π (ofModel π homes) o s (q ∷ h) (putIn π homes h o s ++ x)) (sym (pick-false _ _ (ne-eqb _ _ e)))
-      (none-put (sent-is h o s) (λ c w u f. e (u .passed))))
+      (none-put (sent-is h o s) (λ a. e (a .passed))))
       (eq-or-ne (refusal π (run π homes h) q) 0)
 
 module _ (π : Counts) (homes : List ℕ) (u : SetUp π homes) where
@@ -142,6 +160,9 @@ module _ (π : Counts) (homes : List ℕ) (u : SetUp π homes) where
     all-held = ap (λ l. l ++ copies (σ .shelf d s .untaken o)) (link .keeps) ∙ ap (λ l. left test (link .taken) ++ l) (sym (left-none test _ untaken-hidden))
         ∙ sym (left-both test (link .taken) _) ∙ ap (left test) (sym (link .whole))
 
+    all-gone : passing test (putIn π homes h o s) ≡ passing test (link .taken)
+    all-gone = ap (passing test) (link .whole) ∙ passing-both test (link .taken) _ ∙ ap (λ l. passing test (link .taken) ++ l) (passing-none test _ untaken-hidden) ∙ append-nil _
+
     counts : length (putIn π homes h o s) ≡ length (passing test (link .taken)) + (length (σ .shelf d s .taken o) + length (copies (σ .shelf d s .untaken o)))
     counts =
         let whole : length (putIn π homes h o s) ≡ length (link .taken) + length (copies (σ .shelf d s .untaken o)) = ap length (link .whole) ∙ length-append (link .taken) _ in
@@ -166,7 +187,7 @@ module _ (π : Counts) (homes : List ℕ) (u : SetUp π homes) where
 
     lossless : Lossless π (ofModel π homes) h d s o (putIn π homes h o s)
     unfolding coveredAt clear
-    lossless = record { taken = link .taken; whole = link .whole; held = link .keeps; holds = all-held; counted = counts; shown = covered-stored }
+    lossless = record { taken = link .taken; whole = link .whole; held = link .keeps; holds = all-held; gone = all-gone; counted = counts; shown = covered-stored }
 
   module _ (h : List Call) (bare : Bare π (ofModel π homes) h) where
     -- every write made is stored at every depot, or a greater one
@@ -199,13 +220,41 @@ module _ (π : Counts) (homes : List ℕ) (u : SetUp π homes) where
         z : (d : ℕ) → d < π .depots → ShelfSound π (Made (ofModel π homes) h) d (shelfOf π k) (run π homes h .shelf d (shelfOf π k))
         z d hd = inv π homes u h .sound .shelf d (shelfOf π k) hd (shelf-below π u k)
 
+    -- so is what anybody is answered with: it is no lower than what the home shelf stored, and was made
+    bare-answered : Demand2 π (ofModel π homes) → (q : Call) (c k : ℕ) (v : Version) → Got (ofModel π homes) h q c k v → (d : ℕ) → d < π .depots → run π homes h .shelf d (shelfOf π k) .store k ≡ v
+    bare-answered D q c k v g d hd = bare-alike d house k hd housed ∙ one-stored _ _ _ v (stores k) (R .written)
+        (λ m. at-least π homes u h v _ m (subst (AtMost (π .depots) _) (R .stored) (history-grows π homes u (q ∷ []) h .store house _ k)) (R .written))
+        (λ m. bare-stored _ m house housed)
+      where
+        R : ReadAnswers π (ofModel π homes) h q c k v
+        R = D .reads h q c k v g
+
+        house : ℕ
+        house = run π homes h .home c
+
+        named : c < π .crews
+        named = ⊎-elim
+            (λ r. read-passed π _ c k (subst (λ q. refusal π (run π homes h) q ≡ 0) (r .0) (g .passed)) .crew)
+            (λ l. list-passed π _ c (l .0) (subst (λ q. refusal π (run π homes h) q ≡ 0) (l .1) (g .passed)) .crew)
+            (g .gets)
+
+        housed : house < π .depots
+        housed = inv π homes u h .sound .crews c named .depot
+
+        stores : (k : ℕ) → NotInvented π (ofModel π homes) h k (run π homes h .shelf house (shelfOf π k) .store k)
+        stores k = inv π homes u h .sound .shelf house (shelfOf π k) housed (shelf-below π u k) .stores k
+
 pub nothing-lost : (π : Counts) (homes : List ℕ) → setup π homes ≡ 0 → NothingLost π (ofModel π homes)
 nothing-lost π homes e = record {
   sent = λ h o s. (putIn π homes h o s, sent-is π homes h o s);
   one = λ h o s l m. sent-one π homes;
   sent-made = λ h o s l w. sent-from π homes;
   made-sent = λ h o s l w. sent-has π homes;
+  takes = λ h d s o hd hs ho n. comes-taken π d s o homes h;
+  stays = λ h q d s o hd hs ho n. comes-on π d s o homes h q;
   lossless = λ h d s o l hd hs ho n t. subst (Lossless π (ofModel π homes) h d s o) (sent-one π homes (sent-is π homes h o s) t)
       (lossless π homes (set-up π homes e) h d s o hd hs (record { below = ho; apart = n }));
+  all-stored = λ h bare. bare-stored π homes (set-up π homes e) h bare;
   alike = λ h bare d e′ k hd he hk. bare-alike π homes (set-up π homes e) h bare d e′ k hd he;
+  answered = λ h bare. bare-answered π homes (set-up π homes e) h bare (demand2 π homes e);
 }

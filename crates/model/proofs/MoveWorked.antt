@@ -15,7 +15,7 @@ use Rattle.model.specs.Words.{allRefreshed, allTicked, twice, waitedOnce
 use Rattle.model.specs.MoveCase.{asksThere, waitedThrice, caseMove, caseMoveAnswers, MoveCase}
 use Rattle.model.proofs.Lawful.{dominates, lawful, lawful-agrees}
 use Rattle.model.proofs.Computed.{answersNow, answers-computed}
-use Rattle.model.proofs.RoundsWorked.{taking, no-takes, Emptied, all-links, round-of}
+use Rattle.model.proofs.RoundsWorked.{taking, no-takes, OfLinks, all-links, Emptied, round-of}
 use Rattle.model.proofs.Witnesses.{silent-round, fourTakes, waited, silent}
 
 three-lacking : duo .crew (after duo twice) 0 0 - lowestClock counts duo twice 0 + 1 ≡ 3
@@ -34,9 +34,9 @@ at-last : numberAfter waitedThrice asksThere ≡ 0
 unfolding answersNow counts homes twice waitedOnce waitedTwice waitedThrice allRefreshed allTicked after step settled shown settle storing keep
 at-last = refl
 
-thrice-emptied : (d s o : ℕ) → d < 2 → s < 2 → o < 2 → Emptied (fourTakes ++ (asksThere ∷ waitedTwice)) d s o
+thrice-emptied : OfLinks (Emptied (fourTakes ++ (asksThere ∷ waitedTwice)))
 unfolding answersNow counts homes twice waitedOnce waitedTwice allRefreshed allTicked after step settled shown settle storing keep
-thrice-emptied = all-links (fourTakes ++ (asksThere ∷ waitedTwice)) (λ n. refl) (λ n. refl) (λ n. refl) (λ n. refl)
+thrice-emptied = all-links (Emptied (fourTakes ++ (asksThere ∷ waitedTwice))) refl refl refl refl
 
 waited-on : Rounds counts duo 3 twice waitedThrice
 unfolding waitedThrice

@@ -30,17 +30,23 @@ both Q a b zero h = a
 both Q a b (suc zero) h = b
 both Q a b (suc (suc x)) h = absurd (omega arith)
 
-abbrev pub Emptied : List Call → ℕ → ℕ → ℕ → Type 0
-Emptied h d s o = (o ≡ d → ⊥) → numberAfter h (take d s o) ≡ 7
-
--- two depots with two shelves have four links
-pub all-links : (h : List Call) → Emptied h 0 0 1 → Emptied h 0 1 1 → Emptied h 1 0 0 → Emptied h 1 1 0
-    → (d s o : ℕ) → d < 2 → s < 2 → o < 2 → Emptied h d s o
-all-links h a b c e d s o hd hs ho =
-    both (λ d. Emptied h d s o)
-    (both (λ s. Emptied h 0 s o) (both (Emptied h 0 0) (λ n. absurd (n refl)) a o ho) (both (Emptied h 0 1) (λ n. absurd (n refl)) b o ho) s hs)
-    (both (λ s. Emptied h 1 s o) (both (Emptied h 1 0) c (λ n. absurd (n refl)) o ho) (both (Emptied h 1 1) e (λ n. absurd (n refl)) o ho) s hs)
+-- or of both depots and the other one
+apart : (Q : ℕ → ℕ → Type 0) → Q 0 1 → Q 1 0 → (d o : ℕ) → d < 2 → o < 2 → (o ≡ d → ⊥) → Q d o
+apart Q a b d o hd ho = both (λ d. (o ≡ d → ⊥) → Q d o)
+    (both (λ o. (o ≡ 0 → ⊥) → Q 0 o) (λ n. absurd (n refl)) (λ n. a) o ho)
+    (both (λ o. (o ≡ 1 → ⊥) → Q 1 o) (λ n. b) (λ n. absurd (n refl)) o ho)
     d hd
+
+-- two depots with two shelves have four links: of all of them
+abbrev pub OfLinks : (ℕ → ℕ → ℕ → Type 0) → Type 0
+OfLinks Q = (d s o : ℕ) → d < 2 → s < 2 → o < 2 → (o ≡ d → ⊥) → Q d s o
+
+pub all-links : (Q : ℕ → ℕ → ℕ → Type 0) → Q 0 0 1 → Q 0 1 1 → Q 1 0 0 → Q 1 1 0 → OfLinks Q
+all-links Q a b c e d s o hd hs ho n = both (λ s. Q d s o) (apart (λ d o. Q d 0 o) a c d o hd ho n) (apart (λ d o. Q d 1 o) b e d o hd ho n) s hs
+
+-- a link is empty after history h
+abbrev pub Emptied : List Call → ℕ → ℕ → ℕ → Type 0
+Emptied h d s o = numberAfter h (take d s o) ≡ 7
 
 -- and four shelves
 pub all-refreshes : Each IsRefresh allRefreshed
@@ -52,7 +58,7 @@ unfolding allTicked grid row
 all-ticks = grid-each IsTick tick 2 2 (λ d s. a-tick)
 
 -- a round of these takes, then every shelf refreshed, then every shelf ticked
-pub round-of : (takes g : List Call) → Each IsTake takes → ((d s o : ℕ) → d < 2 → s < 2 → o < 2 → Emptied (takes ++ g) d s o)
+pub round-of : (takes g : List Call) → Each IsTake takes → OfLinks (Emptied (takes ++ g))
     → Round counts duo g (allTicked ++ (allRefreshed ++ (takes ++ g)))
 unfolding allRefreshed allTicked counts grid row
 round-of takes g are emptied = record {
@@ -68,13 +74,13 @@ round-of takes g are emptied = record {
   ends = refl;
 }
 
-first-emptied : (d s o : ℕ) → d < 2 → s < 2 → o < 2 → Emptied (firstTakes ++ twoWrites) d s o
+first-emptied : OfLinks (Emptied (firstTakes ++ twoWrites))
 unfolding answersNow counts homes firstTakes twoWrites after step settled shown settle storing keep
-first-emptied = all-links (firstTakes ++ twoWrites) (λ n. refl) (λ n. refl) (λ n. refl) (λ n. refl)
+first-emptied = all-links (Emptied (firstTakes ++ twoWrites)) refl refl refl refl
 
-second-emptied : (d s o : ℕ) → d < 2 → s < 2 → o < 2 → Emptied (secondTakes ++ oneRound) d s o
+second-emptied : OfLinks (Emptied (secondTakes ++ oneRound))
 unfolding answersNow counts homes firstTakes secondTakes allRefreshed allTicked oneRound twoWrites after step settled shown settle storing keep
-second-emptied = all-links (secondTakes ++ oneRound) (λ n. refl) (λ n. refl) (λ n. refl) (λ n. refl)
+second-emptied = all-links (Emptied (secondTakes ++ oneRound)) refl refl refl refl
 
 first-takes : Each IsTake firstTakes
 unfolding firstTakes
@@ -100,9 +106,9 @@ pub not-yet : run counts homes oneRound .shelf 1 0 .store 0 .payload ≡ day 9
 unfolding endsNow dominates lawful counts homes oneRound oldestFirst after ends
 not-yet = ap (λ (σ : State). σ .shelf 1 0 .store 0 .payload) (ends-computed counts lawful lawful-agrees (fresh homes) oldestFirst)
 
-nothing-there : (d s o : ℕ) → d < 2 → s < 2 → o < 2 → Emptied [] d s o
+nothing-there : OfLinks (Emptied [])
 unfolding answersNow counts homes after
-nothing-there = all-links [] (λ n. refl) (λ n. refl) (λ n. refl) (λ n. refl)
+nothing-there = all-links (Emptied []) refl refl refl refl
 
 pub plain : Round counts duo [] (allTicked ++ allRefreshed)
 unfolding allRefreshed

@@ -50,7 +50,7 @@ module _ (n d : ℕ) (u : Vec) (h : Shelf) where
 
   pub settled-rises : (k : ℕ) → AtMost n (h .store k) (settled n d u h .store k)
   unfolding settled shown
-  settled-rises = links-rises n (clear n d up) (h .taken) n (h .store)
+  settled-rises = links-rises n (clear n d up) _ n (h .store)
 
   -- a taken copy that is covered is stored, or a greater one
   pub settled-has : {w : Write} (o : ℕ) → o < n → List·Memᴰ w (h .taken o) → clear n d up w ≡ true → AtMost n (w .version) (settled n d u h .store (w .bearing))

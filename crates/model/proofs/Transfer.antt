@@ -18,7 +18,7 @@ use Rattle.model.specs.System.{System, after}
 use Rattle.model.specs.Follows.{Alike, Follows}
 use Rattle.model.specs.Page.{OnePage}
 use Rattle.model.specs.Links as links
-use Rattle.model.specs.Links.{passing, Sent, coveredAt, NothingLost}
+use Rattle.model.specs.Links.{passing, Accepted, Sent, coveredAt, Bare, NothingLost}
 use Rattle.model.specs.Rules.{left}
 use Rattle.model.specs.Demands as demands
 use Rattle.model.specs.Demands.{AtLeast, Tells, Dated, Carded, Silent, Wrote, Got, MadeAt, now, earlier, Made, Past, wrote, got, kept, under}
@@ -238,28 +238,72 @@ module _ {π : Counts} {S T : System} (f : Follows π S T) where
 
   -- ---- links
 
-  sent-to : {o s : ℕ} {h : List Call} {l : List Write} → Sent π S o s h l → Sent π T o s h l
-  sent-to links.begin = links.begin
-  sent-to (links.more t w f) = links.more (sent-to t) (wrote-to w) f
-  sent-to (links.same t n) = links.same (sent-to t) (λ c w a. n c w (wrote-from a))
+  -- whose write is done is a crew
+  writer : NothingLost π T → {h : List Call} {q : Call} {o s : ℕ} (a : Accepted π T h q o s) → a .crew < π .crews
+  writer N {h} {q} {o} {s} a = go (N .sent (q ∷ h) o s .1)
+    where
+      go : {l : List Write} → Sent π T o s (q ∷ h) l → a .crew < π .crews
+      go (links.more t b w) =
+          let one = a .asked in let two = b .asked in let crew : b .crew ≡ a .crew = cc in
+          subst (λ c. c < π .crews) crew (alike h .writes q (b .crew) _ (w .passed) (w .makes) .0)
+      go (links.same t n) = absurd (n a)
 
-  sent-back : {o s : ℕ} {h : List Call} {l : List Write} → Sent π T o s h l → Sent π S o s h l
-  sent-back links.begin = links.begin
-  sent-back (links.more t w f) = links.more (sent-back t) (wrote-from w) f
-  sent-back (links.same t n) = links.same (sent-back t) (λ c w a. n c w (wrote-to a))
+  module _ (N : NothingLost π T) where
+    accepted-to : {h : List Call} {q : Call} {o s : ℕ} → Accepted π S h q o s → Accepted π T h q o s
+    accepted-to {h} {q} {o} {s} a =
+        let p = sym (alike h .number q) ∙ a .passed in
+        let there : Accepted π T h q (T .home (after T h) (a .crew)) s =
+        record { crew = a .crew; bearing = a .bearing; payload = a .payload; asked = a .asked; passed = p; home = refl; shelf = a .shelf } in
+        subst (λ o. Accepted π T h q o s) (sym (alike h .home (a .crew) (writer N there)) ∙ a .home) there
+
+    accepted-from : {h : List Call} {q : Call} {o s : ℕ} → Accepted π T h q o s → Accepted π S h q o s
+    accepted-from {h} {q} a = record {
+      crew = a .crew;
+      bearing = a .bearing;
+      payload = a .payload;
+      asked = a .asked;
+      passed = alike h .number q ∙ a .passed;
+      home = alike h .home (a .crew) (writer N a) ∙ a .home;
+      shelf = a .shelf;
+    }
+
+    sent-to : {o s : ℕ} {h : List Call} {l : List Write} → Sent π S o s h l → Sent π T o s h l
+    unfolding accepted-to
+    sent-to links.begin = links.begin
+    sent-to (links.more t a w) = links.more (sent-to t) (accepted-to a) (wrote-to w)
+    sent-to (links.same t n) = links.same (sent-to t) (λ a. n (accepted-from a))
+
+    sent-back : {o s : ℕ} {h : List Call} {l : List Write} → Sent π T o s h l → Sent π S o s h l
+    unfolding accepted-from
+    sent-back links.begin = links.begin
+    sent-back (links.more t a w) = links.more (sent-back t) (accepted-from a) (wrote-from w)
+    sent-back (links.same t n) = links.same (sent-back t) (λ a. n (accepted-to a))
+
+  bare-to : (h : List Call) → Bare π S h → Bare π T h
+  bare-to h b = record {
+    taken = λ d s o hd hs ho n. sym (alike h .taken d s o hd hs ho n) ∙ b .taken d s o hd hs ho n;
+    coming = λ d s o hd hs ho n. sym (alike h .coming d s o hd hs ho n) ∙ b .coming d s o hd hs ho n;
+  }
 
   covered-alike : (h : List Call) (d s : ℕ) → d < π .depots → s < π .shelves → coveredAt π S h d s ≡ coveredAt π T h d s
   unfolding coveredAt
   covered-alike h d s hd hs = λ i w. covered-same (π .depots) d (w .version .vector) _ (w .version .vector) _ (λ x hx. refl) (λ x hx. alike h .stable d s x hd hs hx) i
 
   pub links-from : NothingLost π T → NothingLost π S
+  unfolding after
   links-from N = record {
-    sent = λ h o s. let t = N .sent h o s in (t .0, sent-back (t .1));
-    one = λ h o s l m t u. N .one h o s l m (sent-to t) (sent-to u);
-    sent-made = λ h o s l w t i. let p = N .sent-made h o s l w (sent-to t) i in (made-from (p .0), p .1);
-    made-sent = λ h o s l w t m. N .made-sent h o s l w (sent-to t) (made-to m);
+    sent = λ h o s. let t = N .sent h o s in (t .0, sent-back N (t .1));
+    one = λ h o s l m t u. N .one h o s l m (sent-to N t) (sent-to N u);
+    sent-made = λ h o s l w t i. let p = N .sent-made h o s l w (sent-to N t) i in (made-from (p .0), p .1);
+    made-sent = λ h o s l w t m. N .made-sent h o s l w (sent-to N t) (made-to m);
+    takes = λ h d s o hd hs ho n e.
+        let t = N .takes h d s o hd hs ho n (sym (alike h .number _) ∙ e) in
+        (t .0, t .1, alike h .coming d s o hd hs ho n ∙ t .2 ∙ ap (λ x. t .0 ++ x) (sym (alike (take d s o ∷ h) .coming d s o hd hs ho n)));
+    stays = λ h q d s o hd hs ho n a.
+        let t = N .stays h q d s o hd hs ho n (λ f p. a f (alike h .number q ∙ p)) in
+        (t .0, alike (q ∷ h) .coming d s o hd hs ho n ∙ t .1 ∙ ap (λ x. x ++ t .0) (sym (alike h .coming d s o hd hs ho n)));
     lossless = λ h d s o l hd hs ho n t.
-        let L = N .lossless h d s o l hd hs ho n (sent-to t) in
+        let L = N .lossless h d s o l hd hs ho n (sent-to N t) in
         let test = sym (covered-alike h d s hd hs) in
         let took = alike h .taken d s o hd hs ho n in
         let comes = alike h .coming d s o hd hs ho n in
@@ -268,14 +312,18 @@ module _ {π : Counts} {S T : System} (f : Follows π S T) where
           whole = L .whole ∙ ap (λ x. L .taken ++ x) (sym comes);
           held = took ∙ L .held ∙ ap (λ f. left f (L .taken)) test;
           holds = ap₂ (λ x y. x ++ y) took comes ∙ L .holds ∙ ap (λ f. left f l) test;
+          gone = ap (λ f. passing f l) (sym test) ∙ L .gone ∙ ap (λ f. passing f (L .taken)) test;
           counted = L .counted ∙ (λ i. length (passing (test i) (L .taken)) + (length (sym took i) + length (sym comes i)));
-          shown = λ w i c. let m = N .sent-made h o s l w (sent-to t) i .0 in
+          shown = λ w i c. let m = N .sent-made h o s l w (sent-to N t) i .0 in
               subst (λ v. AtLeast (π .depots) v (w .version)) (sym (alike h .store d (w .bearing) hd (named (m .at) .1)))
               (L .shown w i (sym (ap (λ f. f w) (sym test)) ∙ c));
         };
-    alike = λ h b d e k hd he hk. alike h .store d k hd hk
-        ∙ N .alike h (record { taken = λ d s o hd hs ho n. sym (alike h .taken d s o hd hs ho n) ∙ b .taken d s o hd hs ho n; coming = λ d s o hd hs ho n. sym (alike h .coming d s o hd hs ho n) ∙ b .coming d s o hd hs ho n }) d e k hd he hk
-        ∙ sym (alike h .store e k he hk);
+    all-stored = λ h b w m d hd. subst (λ v. AtLeast (π .depots) v (w .version)) (sym (alike h .store d (w .bearing) hd (named (made-to m .at) .1)))
+        (N .all-stored h (bare-to h b) w (made-to m) d hd);
+    alike = λ h b d e k hd he hk. alike h .store d k hd hk ∙ N .alike h (bare-to h b) d e k hd he hk ∙ sym (alike h .store e k he hk);
+    answered = λ h b q c k v g d hd.
+        let g′ = got-to g in
+        alike h .store d k hd (alike h .reads q c k v (g′ .passed) (g′ .gets) .1) ∙ N .answered h (bare-to h b) q c k v g′ d hd;
   }
 
   -- ---- moves

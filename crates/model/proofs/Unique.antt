@@ -31,7 +31,7 @@ module _ (π : Counts) (homes : List ℕ) where
   wrote-stamp {h} {q} {c} {w} t = subst (λ (v : Version). stamp v ≡ suc (run π homes h .shelf (v .origin) (shelfOf π (w .bearing)) .clock)) (sym (t .makes .2)) (put-same _ _ _)
 
   -- two writes that the last call wrote are one
-  wrote-one : {h : List Call} {q : Call} {b c : ℕ} {v w : Write} → Wrote (ofModel π homes) h q b v → Wrote (ofModel π homes) h q c w → v ≡ w
+  pub wrote-one : {h : List Call} {q : Call} {b c : ℕ} {v w : Write} → Wrote (ofModel π homes) h q b v → Wrote (ofModel π homes) h q c w → v ≡ w
   wrote-one {h} {q} {b} {c} {v} {w} s t =
       let one : q ≡ write b (v .bearing) (s .makes .0) = s .makes .1 in
       let two : q ≡ write c (w .bearing) (t .makes .0) = t .makes .1 in

@@ -15,7 +15,7 @@ use Rattle.model.specs.Cases.{counts, homes}
 use Rattle.model.specs.Words.{allRefreshed, allTicked, twice, asks, waitedOnce, waitedTwice, duo, numberAfter, Words}
 use Rattle.model.proofs.Computed.{answersNow}
 use Rattle.model.proofs.PastWorked.{through-read, gets-twenty, reads-nothing, lists-twenty, through-two}
-use Rattle.model.proofs.RoundsWorked.{taking, no-takes, Emptied, all-links, all-refreshes, all-ticks, round-of, is-f, f-rounds, not-yet, plain, no-read}
+use Rattle.model.proofs.RoundsWorked.{taking, no-takes, OfLinks, all-links, Emptied, all-refreshes, all-ticks, round-of, is-f, f-rounds, not-yet, plain, no-read}
 
 -- takes, refreshes and ticks are no crew's
 nobodys : (c : ℕ) {q : Call} → IsTick q ⊎ (IsRefresh q ⊎ IsTake q) → By c q → ⊥
@@ -54,13 +54,13 @@ twoTakes = take 1 0 0 ∷ (take 1 0 0 ∷ [])
 abbrev pub fourTakes : List Call
 fourTakes = take 0 1 1 ∷ (take 0 0 1 ∷ (take 1 1 0 ∷ (take 1 0 0 ∷ [])))
 
-once-emptied : (d s o : ℕ) → d < 2 → s < 2 → o < 2 → Emptied (twoTakes ++ (asks ∷ twice)) d s o
+once-emptied : OfLinks (Emptied (twoTakes ++ (asks ∷ twice)))
 unfolding answersNow counts homes twice after step settled shown settle storing keep
-once-emptied = all-links (twoTakes ++ (asks ∷ twice)) (λ n. refl) (λ n. refl) (λ n. refl) (λ n. refl)
+once-emptied = all-links (Emptied (twoTakes ++ (asks ∷ twice))) refl refl refl refl
 
-twice-emptied : (d s o : ℕ) → d < 2 → s < 2 → o < 2 → Emptied (fourTakes ++ (asks ∷ waitedOnce)) d s o
+twice-emptied : OfLinks (Emptied (fourTakes ++ (asks ∷ waitedOnce)))
 unfolding answersNow counts homes twice waitedOnce allRefreshed allTicked after step settled shown settle storing keep
-twice-emptied = all-links (fourTakes ++ (asks ∷ waitedOnce)) (λ n. refl) (λ n. refl) (λ n. refl) (λ n. refl)
+twice-emptied = all-links (Emptied (fourTakes ++ (asks ∷ waitedOnce))) refl refl refl refl
 
 pub waited : Rounds counts duo 2 twice waitedTwice
 unfolding waitedOnce waitedTwice

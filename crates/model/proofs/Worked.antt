@@ -36,11 +36,11 @@ unfolding answersNow dominates lawful counts homes listingToB listing listingAns
 caseD-holds = answers-computed counts lawful lawful-agrees (fresh homes) caseD ∙ refl
 
 -- the vector (a, b) with the origin o, as the order looks at it
-pairRank : ℕ → ℕ → ℕ → Rank
+unfoldable pub pairRank : ℕ → ℕ → ℕ → Rank
 pairRank a b o = record { vector = λ x. pick (eqb x 0) a (pick (eqb x 1) b 0); origin = o }
 
 -- the one comparison that (e) and (f) leave to the order's own rule
-first-decides : above 2 (pairRank 1 0 0) (pairRank 0 1 1) ≡ true
+pub first-decides : above 2 (pairRank 1 0 0) (pairRank 0 1 1) ≡ true
 unfolding pairRank pick
 first-decides = above-case _ _ refl refl refl refl refl refl
 

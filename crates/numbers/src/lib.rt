@@ -7,26 +7,26 @@ ghost use lib.ListN.{length};
 ghost use Rattle.book.specs.Words.{put};
 ghost use Rattle.numbers.specs.Numbers.{bytesOf, wordsAt};
 
-// The bytes of the numbers stand from `at` on.
-pub fn put_numbers(out: &mut [u8], at: usize, numbers: &[u32])
-    requires { ⌜ at + 4 * length (now numbers) ≤ length (now out) ⌝ }
-    ensures { λ r. ⌜ now (out .exit) ≡ put (now (out .entry)) at (bytesOf (now (numbers .entry))) ⌝ }
+// The bytes of the words stand from `at` on.
+pub fn put_words(out: &mut [u8], at: usize, words: &[u32])
+    requires { ⌜ at + 4 * length (now words) ≤ length (now out) ⌝ }
+    ensures { λ r. ⌜ now (out .exit) ≡ put (now (out .entry)) at (bytesOf (now (words .entry))) ⌝ }
 {
     let mut i = 0;
-    while i < numbers.len() {
-        put_word(out, at + 4 * i, numbers[i]);
+    while i < words.len() {
+        put_word(out, at + 4 * i, words[i]);
         i += 1;
     }
 }
 
-// `into` becomes the numbers that the bytes from `at` on are, as many as it has room for.
-pub fn read_numbers(f: &[u8], at: usize, into: &mut [u32])
-    requires { ⌜ at + 4 * length (now into) ≤ length (now f) ⌝ }
-    ensures { λ r. ⌜ now (into .exit) ≡ wordsAt (now (f .entry)) at (length (now (into .entry))) ⌝ }
+// The words are those that the bytes from `at` on are.
+pub fn read_words(bytes: &[u8], at: usize, words: &mut [u32])
+    requires { ⌜ at + 4 * length (now words) ≤ length (now bytes) ⌝ }
+    ensures { λ r. ⌜ now (words .exit) ≡ wordsAt (now (bytes .entry)) at (length (now (words .entry))) ⌝ }
 {
     let mut i = 0;
-    while i < into.len() {
-        into[i] = word_at(f, at + 4 * i);
+    while i < words.len() {
+        words[i] = word_at(bytes, at + 4 * i);
         i += 1;
     }
 }

@@ -1,6 +1,6 @@
 // The record of a request: how many bytes it has, and how it is written. docs/JOURNAL.md tells them.
 use journal::record::Kind;
-use numbers::put_numbers;
+use numbers::put_words;
 use records::kinds::byte_of;
 use request::ask::Request;
 ghost use mathlib.Core.Path.{_≡_};
@@ -51,7 +51,7 @@ fn put_plain(out: &mut [u8], at: usize, kind: Kind, numbers: &[u32])
     ensures { λ r. ⌜ now (out .exit) ≡ put (now (out .entry)) at (byteOf kind ∷ bytesOf (now (numbers .entry))) ⌝ }
 {
     out[at] = byte_of(kind);
-    put_numbers(out, at + 1, numbers);
+    put_words(out, at + 1, numbers);
 }
 
 // A record in which a byte counts the numbers beside the request's own stands from `at` on.
@@ -63,8 +63,8 @@ fn put_counted(out: &mut [u8], at: usize, kind: Kind, own: &[u32], beside: &[u32
     out[at] = byte_of(kind);
     out[at + 1] = beside.len() as u8;
     let next = at + 2;
-    put_numbers(out, next, own);
-    put_numbers(out, next + 4 * own.len(), beside);
+    put_words(out, next, own);
+    put_words(out, next + 4 * own.len(), beside);
 }
 
 // The record of a request stands from `at` on.

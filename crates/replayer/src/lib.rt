@@ -1,7 +1,7 @@
 // The next record of a journal: whether it is all there, and its call, which is made. docs/JOURNAL.md tells what comes of it.
 use calls::perform::perform;
 use journal::record::Kind;
-use numbers::read_numbers;
+use numbers::read_words;
 use records::asking::beside_by;
 use records::asking::request_by;
 use records::kinds::Named;
@@ -102,7 +102,7 @@ pub fn next_record(book: &mut [u32], bytes: &[u8], numbers: &mut [u32]) -> Next
     if bytes.len() < size {
         return Next { end: CUT, size: 0 };
     }
-    read_numbers(bytes, head, &mut numbers[..n]);
+    read_words(bytes, head, &mut numbers[..n]);
     let end = replayed(book, kind, &numbers[..n]);
     Next {
         end: end,

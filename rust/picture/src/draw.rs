@@ -1,13 +1,13 @@
 //! The picture: rows from top to bottom, marks in the lanes of the shelves, words beside them.
 
-use depot_register::{Depot, Shelf};
+use depot_register::{Bearing, Depot, Shelf};
 
 use crate::arguments::Asked;
 use crate::key::{sign_mark, signs};
 use crate::lettering::{broken, class, height_of, line_height, wrap};
 use crate::messages::messages;
 use crate::plan::{width, Placed, Plan, Row, Shape, SHORT};
-use crate::run::{Event, Line, Run};
+use crate::run::{Event, Found, Line, Run};
 use crate::shapes::{circle, cross, diamond, half, line, numbered, point, text};
 use crate::style;
 use crate::words::{self, Tone};
@@ -191,9 +191,29 @@ fn mark_of(layers: &mut Layers, plan: &Plan, at: usize) {
             *marks += &numbered(&circle(x, y, half(r, bearing.0), "written"), x, y, "written-in", bearing.0);
         }
         Event::Read { bearing, .. } => *marks += &numbered(&diamond(x, y, half(r, bearing.0) + 4, "read"), x, y, "", bearing.0),
+        Event::List { page, .. } => list(marks, plan, asked, page, y),
         Event::Tick { .. } => *marks += &circle(x, y, 4, "dot tick"),
         Event::Take { .. } => take(marks, plan, asked, x, y),
         Event::Refresh { .. } => *marks += &circle(x, y, 5, "read refresh"),
+    }
+}
+
+/// The marks of a list: on each shelf that it reads a diamond with the first of its bearings there, and a bar from the first shelf to the last.
+fn list(marks: &mut String, plan: &Plan, asked: &Line, page: &[(Bearing, Found)], y: i32) {
+    let (Some((depot, _)), Some(section)) = (asked.place, asked.section) else { return };
+    let lanes = plan.lanes(section);
+    let shelf_of = |bearing: Bearing| Shelf(bearing.0 % lanes.counts.shelves);
+    let mut firsts: Vec<Bearing> = Vec::new();
+    for (bearing, _) in page {
+        if firsts.iter().all(|first| shelf_of(*first) != shelf_of(*bearing)) {
+            firsts.push(*bearing);
+        }
+    }
+    let places: Vec<i32> = firsts.iter().map(|first| lanes.shelf(depot, shelf_of(*first))).collect();
+    let [left, right] = [places.iter().min(), places.iter().max()].map(|x| x.copied().unwrap_or(0));
+    *marks += &line(point((left - 20, y)), point((right + 20, y)), "page");
+    for (first, x) in firsts.iter().zip(places) {
+        *marks += &numbered(&diamond(x, y, half(plan.shape.mark, first.0) + 4, "read"), x, y, "", first.0);
     }
 }
 

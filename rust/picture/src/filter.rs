@@ -41,10 +41,7 @@ impl Filter {
 
 /// A line that writes or reads the bearing, takes a copy of it, or shows one.
 fn concerns(run: &Run, line: &Line, bearing: Bearing) -> bool {
-    let asked = match line.event {
-        Event::Read { bearing: asked, .. } | Event::Write { bearing: asked, .. } => asked == bearing,
-        _ => false,
-    };
+    let asked = line.event.reads(bearing) || matches!(line.event, Event::Write { bearing: written, .. } if written == bearing);
     let copies = |id: &usize| run.messages[*id].copy.is_some_and(|(copied, _)| copied == bearing);
     asked || line.took.iter().chain(&line.showed).any(copies)
 }

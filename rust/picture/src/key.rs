@@ -14,12 +14,13 @@ pub enum Sign {
     Shown,
     Lower,
     Read,
+    Page,
     Refused,
     Beat,
     Refresh,
 }
 
-const KEY: [(Sign, &str); 10] = [
+const KEY: [(Sign, &str); 11] = [
     (Sign::Write, "a crew writes"),
     (Sign::Copy, "its copy, on its way"),
     (Sign::Waiting, "a copy not yet taken"),
@@ -27,6 +28,7 @@ const KEY: [(Sign, &str); 10] = [
     (Sign::Shown, "shown: readers find it"),
     (Sign::Lower, "a greater one stays"),
     (Sign::Read, "a crew reads"),
+    (Sign::Page, "it reads a list at one moment"),
     (Sign::Refused, "refused: nothing changed"),
     (Sign::Beat, "a heartbeat: a clock's tick"),
     (Sign::Refresh, "a shelf is refreshed"),
@@ -47,7 +49,8 @@ pub fn signs(run: &Run, asked: &Asked) -> Vec<(Sign, &'static str)> {
         Sign::Waiting => run.messages.iter().any(waits),
         Sign::Shown => showed(true),
         Sign::Lower => showed(false),
-        Sign::Read => done(|event| matches!(event, Event::Read { .. })),
+        Sign::Read => done(|event| matches!(event, Event::Read { .. } | Event::List { .. })),
+        Sign::Page => done(|event| matches!(event, Event::List { .. })),
         Sign::Refused => lines().any(|line| line.refused.is_some() || line.event == Event::Bad),
         Sign::Beat => done(|event| matches!(event, Event::Tick { .. })) || took().any(|message| message.copy.is_none()),
         Sign::Refresh => done(|event| matches!(event, Event::Refresh { .. })),
@@ -66,6 +69,7 @@ pub fn sign_mark(shape: &Shape, sign: Sign, x: i32, y: i32) -> String {
         Sign::Beat => arrow((x - 22, y - 4), (x + 20, y + 4), (0, 0), "beat", (6.0, "dot")),
         Sign::Hidden => stretch(shape, x, y - 12, y + 12),
         Sign::Read => numbered(&diamond(x, y, 15, "read key"), x, y, "", 0),
+        Sign::Page => line(point((x - 22, y)), point((x + 22, y)), "page key"),
         Sign::Refused => cross(x, y),
         Sign::Refresh => circle(x, y, 5, "read key"),
     }

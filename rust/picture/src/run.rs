@@ -6,6 +6,9 @@ use depot_register::{Bearing, Card, Counts, Crew, Depot, Register, Shelf, WORDS}
 use crate::auditor::Audited;
 use crate::book::{home, stored, Link, Stored};
 
+/// What a read was told: value and card, or that the bearing is unwritten.
+pub type Found = Option<(u32, Card)>;
+
 /// What a line asked for.
 #[derive(Clone, Debug, PartialEq)]
 pub enum Event {
@@ -16,7 +19,12 @@ pub enum Event {
     Read {
         crew: Crew,
         bearing: Bearing,
-        answer: Option<(u32, Card)>,
+        answer: Found,
+    },
+    /// Bearings read at one moment, each with its answer.
+    List {
+        crew: Crew,
+        page: Vec<(Bearing, Found)>,
     },
     Write {
         crew: Crew,
@@ -40,6 +48,17 @@ pub enum Event {
     },
     /// No line of the desk, or of none that is known here.
     Bad,
+}
+
+impl Event {
+    /// Whether it asks for the bearing.
+    pub fn reads(&self, asked: Bearing) -> bool {
+        match self {
+            Event::Read { bearing, .. } => *bearing == asked,
+            Event::List { page, .. } => page.iter().any(|(bearing, _)| *bearing == asked),
+            _ => false,
+        }
+    }
 }
 
 #[derive(Clone, Debug, PartialEq)]
@@ -182,10 +201,10 @@ impl Run {
                     message.taken = Some(at);
                     line.took = Some(id);
                 }
-                if let (Event::Read { bearing, .. }, Some((depot, _))) = (&line.event, line.place) {
-                    if slot.taken && link.to == depot && slot.copy.is_some_and(|(copied, _)| copied == *bearing) {
-                        line.hidden.push(id);
-                    }
+                if line.place.is_some_and(|(depot, _)| slot.taken && link.to == depot)
+                    && slot.copy.is_some_and(|(copied, _)| line.event.reads(copied))
+                {
+                    line.hidden.push(id);
                 }
                 links[link.number()].push(id);
             }
@@ -197,7 +216,7 @@ impl Run {
 fn read(text: &[u8], answer: String, book: &[u32]) -> Line {
     let number: Option<u32> = answer.split(' ').next().and_then(|word| word.parse().ok());
     let refused = number.filter(|&number| number != 0);
-    let event = if refused == Some(13) { None } else { asked(text, &answer) };
+    let event = if refused == Some(13) { None } else { asked(text, &answer, book[0]) };
     let event = event.unwrap_or(Event::Bad);
     let [depots, shelves, bearings, crews] = [book[0], book[1], book[2], book[3]];
     let at_home = |crew: &Crew, bearing: &Bearing| {
@@ -206,6 +225,7 @@ fn read(text: &[u8], answer: String, book: &[u32]) -> Line {
     let place = match &event {
         Event::Setup { .. } | Event::Bad => None,
         Event::Read { crew, bearing, .. } | Event::Write { crew, bearing, .. } => at_home(crew, bearing),
+        Event::List { crew, page } => page.first().and_then(|(bearing, _)| at_home(crew, bearing)),
         Event::Tick { depot, shelf } | Event::Take { depot, shelf, .. } | Event::Refresh { depot, shelf } => {
             (depot.0 < depots && shelf.0 < shelves).then_some((*depot, *shelf))
         }
@@ -214,8 +234,8 @@ fn read(text: &[u8], answer: String, book: &[u32]) -> Line {
     Line { text: text.to_vec(), answer, event, refused, place, took: None, showed: none(), hidden: none(), section: None }
 }
 
-/// What a line of the grammar asks for, and what it was told.
-fn asked(text: &[u8], answer: &str) -> Option<Event> {
+/// What a line of the grammar asks for, and what it was told. Each answer ends with as many entries as there are depots.
+fn asked(text: &[u8], answer: &str, depots: u32) -> Option<Event> {
     let text = std::str::from_utf8(text).ok()?;
     let mut words = text.split(' ');
     let letter = words.next()?;
@@ -226,12 +246,16 @@ fn asked(text: &[u8], answer: &str) -> Option<Event> {
             let counts = Counts { depots: *depots, shelves: *shelves, bearings: *bearings, crews: *crews };
             Event::Setup { counts, homes: homes.iter().copied().map(Depot).collect() }
         }
-        ("R", &[crew, bearing]) => {
-            let answer = match told[..] {
-                [Some(0), Some(value), Some(diameter), Some(width), ..] => Some((value, Card::from_bits(diameter, width))),
-                _ => None,
+        ("R", &[crew, bearing]) => Event::Read { crew: Crew(crew), bearing: Bearing(bearing), answer: found(&told[1..]) },
+        ("L", [crew, bearings @ ..]) => {
+            let mut rest = &told[1..];
+            let mut next = |bearing: &u32| {
+                let answer = found(rest);
+                let words = depots as usize + if answer.is_some() { 3 } else { 1 };
+                rest = rest.get(words..).unwrap_or(&[]);
+                (Bearing(*bearing), answer)
             };
-            Event::Read { crew: Crew(crew), bearing: Bearing(bearing), answer }
+            Event::List { crew: Crew(*crew), page: bearings.iter().map(&mut next).collect() }
         }
         ("W", &[crew, bearing, value, diameter, width]) => Event::Write {
             crew: Crew(crew),
@@ -245,6 +269,14 @@ fn asked(text: &[u8], answer: &str) -> Option<Event> {
         ("F", &[depot, shelf]) => Event::Refresh { depot: Depot(depot), shelf: Shelf(shelf) },
         _ => return None,
     })
+}
+
+/// The value and card with which the answer of a read begins, if it does.
+fn found(told: &[Option<u32>]) -> Found {
+    match *told {
+        [Some(value), Some(diameter), Some(width), ..] => Some((value, Card::from_bits(diameter, width))),
+        _ => None,
+    }
 }
 
 /// The newest version of each written bearing: of the depots' versions the one that the fewest depots have.

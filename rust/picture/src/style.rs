@@ -13,7 +13,7 @@ pub fn sheet(id: &str) -> String {
     format!("{}{}@media (prefers-color-scheme:dark){{\n{}}}\n", always, light, dark)
 }
 
-const RULES: [(&str, &str); 22] = [
+const RULES: [(&str, &str); 23] = [
     ("text", "font:17px system-ui,'Segoe UI',Roboto,Helvetica,Arial,'DejaVu Sans',sans-serif"),
     (".big", "font-size:21px;font-weight:700"),
     (".head", "font-weight:700"),
@@ -35,11 +35,12 @@ const RULES: [(&str, &str); 22] = [
     (".lower", "stroke-width:2.5"),
     (".lacks", "stroke-width:2;stroke-dasharray:3 3"),
     (".read", "stroke-width:2.5"),
+    (".page", "stroke-width:5"),
     (".cross", "stroke-width:4;stroke-linecap:round"),
 ];
 
 /// Selector, colours by light, colours by dark.
-const COLOURS: [(&str, &str, &str); 24] = [
+const COLOURS: [(&str, &str, &str); 25] = [
     (".paper", "fill:#ffffff", "fill:#12161b"),
     (".band", "fill:#eef2f6", "fill:#1d242c"),
     ("text", "fill:#15191e", "fill:#f2f4f7"),
@@ -63,6 +64,7 @@ const COLOURS: [(&str, &str, &str); 24] = [
     (".green", "fill:#0a5a25", "fill:#7ee2a0"),
     (".lower,.lacks", "fill:#ffffff;stroke:#0a5a25", "fill:#12161b;stroke:#7ee2a0"),
     (".read", "fill:#ffffff;stroke:#15191e", "fill:#12161b;stroke:#f2f4f7"),
+    (".page", "stroke:#15191e", "stroke:#f2f4f7"),
     (".cross", "stroke:#a0140a", "stroke:#ffa198"),
 ];
 

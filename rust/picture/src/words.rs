@@ -3,7 +3,7 @@
 use depot_register::calendar::date_of;
 use depot_register::{Bearing, Card, Depot, Refusal};
 
-use crate::run::{Event, Line, Newest, Run};
+use crate::run::{Event, Found, Line, Newest, Run};
 
 /// How a piece of text is set.
 #[derive(Clone, Copy, Debug, PartialEq, Eq)]
@@ -130,11 +130,13 @@ fn doing(run: &Run, line: &Line) -> String {
             format!("A fresh register: {}, {} each, {}, {}. At home: {}", depots, shelves, bearings, crews, at_home(homes))
         }
         Event::Setup { .. } => "A setup".to_string(),
-        Event::Read { crew, bearing, answer } => match answer {
-            _ if !done => format!("Crew {} asks for {}", crew.0, bearing),
-            Some((value, size)) => format!("Crew {} reads {}: {}; {}", crew.0, bearing, date(*value), card(*size)),
-            None => format!("Crew {} reads {}: unwritten", crew.0, bearing),
-        },
+        Event::Read { crew, bearing, .. } if !done => format!("Crew {} asks for {}", crew.0, bearing),
+        Event::Read { crew, bearing, answer } => format!("Crew {} reads {}", crew.0, finding(bearing, answer)),
+        Event::List { crew, page } if !done => format!("Crew {} asks for {} at one moment", crew.0, listed(page)),
+        Event::List { crew, page } => {
+            let findings: Vec<String> = page.iter().map(|(bearing, answer)| finding(bearing, answer)).collect();
+            format!("Crew {} reads at one moment {}", crew.0, findings.join(". And "))
+        }
         Event::Write { crew, bearing, value, card: size, superseded } => {
             let verb = if done { "writes" } else { "would write" };
             let stays = if *superseded { "; superseded: a greater one stays" } else { "" };
@@ -149,6 +151,22 @@ fn doing(run: &Run, line: &Line) -> String {
         Event::Refresh { depot, shelf } => format!("Depot {}, {} is refreshed", depot.0, shelf),
         Event::Bad => String::new(),
     }
+}
+
+/// A bearing and what a read of it was told.
+fn finding(bearing: &Bearing, answer: &Found) -> String {
+    match answer {
+        Some((value, size)) => format!("{}: {}; {}", bearing, date(*value), card(*size)),
+        None => format!("{}: unwritten", bearing),
+    }
+}
+
+/// The bearings of a page.
+fn listed(page: &[(Bearing, Found)]) -> String {
+    if page.is_empty() {
+        return "no bearings".to_string();
+    }
+    page.iter().map(|(bearing, _)| bearing.to_string()).collect::<Vec<_>>().join(", ")
 }
 
 /// Which crews are at home where.

@@ -3,7 +3,8 @@
 use depot_register::{Bearing, Depot};
 use picture::arguments::{parse, Asked, Form};
 use picture::filter::Filter;
-use picture::run::{Event, Run};
+use picture::run::{Event, Line, Run};
+use std::collections::HashSet;
 use picture::xml;
 
 /// Numbers at random, the same every time.
@@ -32,11 +33,12 @@ fn lines_of(mut random: Random, count: usize, [depots, shelves, bearings, crews]
         let (depot, shelf, from) = (random.below(depots), random.below(shelves), random.below(depots));
         text += &match random.below(24) {
             0..=3 => format!("W {} {} {} 1112539136 1097859072\n", crew, bearing, random.below(146_200)),
-            4..=6 => format!("R {} {}\n", crew, bearing),
+            4..=5 => format!("R {} {}\n", crew, bearing),
+            6 => format!("L {}{}\n", crew, (0..random.below(10)).map(|_| format!(" {}", random.below(bearings))).collect::<String>()),
             7..=9 => format!("K {} {}\n", depot, shelf),
             10..=18 => format!("T {} {} {}\n", depot, shelf, from),
             19..=22 => format!("F {} {}\n", depot, shelf),
-            _ => ["hello\n", "L 0 1\n", "\n", "K 0  0\n"][random.below(4) as usize].to_string(),
+            _ => ["hello\n", "M 0 1\n", "\n", "K 0  0\n"][random.below(4) as usize].to_string(),
         };
     }
     text.into_bytes()
@@ -67,7 +69,15 @@ fn as_many_marks_as_events() {
             let beats = run.messages.iter().filter(|message| message.copy.is_none() && message.taken.is_some()).count();
             assert_eq!(marks("class=\"row\""), run.lines.len());
             assert_eq!(marks("class=\"written\""), done(|event| matches!(event, Event::Write { .. })));
-            assert_eq!(marks("class=\"read\""), done(|event| matches!(event, Event::Read { .. })));
+            let shelves = run.sections[0].counts.shelves;
+            let shelves_read = |line: &Line| match &line.event {
+                Event::Read { .. } => 1,
+                Event::List { page, .. } => page.iter().map(|(bearing, _)| bearing.0 % shelves).collect::<HashSet<_>>().len(),
+                _ => 0,
+            };
+            let read: usize = run.lines.iter().filter(|line| line.refused.is_none()).map(shelves_read).sum();
+            assert_eq!(marks("class=\"read\""), read);
+            assert_eq!(marks("class=\"page\""), done(|event| matches!(event, Event::List { .. })));
             assert_eq!(marks("class=\"dot tick\""), done(|event| matches!(event, Event::Tick { .. })));
             assert_eq!(marks("class=\"dot heard\""), beats);
             assert_eq!(marks("class=\"taken\""), taken);

@@ -13,13 +13,13 @@ use Rattle.record_writer.proofs.put_counted.Tie as tie
 slice-write-out-2 : tie.Need-slice-write-out-2
 slice-write-out-2 c = simp length-set (omega (arith, c .before .before .before .before .pre .0))
 
-put-numbers-requires : tie.Need-put-numbers-requires
-put-numbers-requires c κs = simp length-set (omega (arith, c .before .before .before .before .before .pre .0))
+put-words-requires : tie.Need-put-words-requires
+put-words-requires c κs = simp length-set (omega (arith, c .before .before .before .before .before .pre .0))
 
-put-numbers-requires-2 : tie.Need-put-numbers-requires-2
-put-numbers-requires-2 c κs =
+put-words-requires-2 : tie.Need-put-words-requires-2
+put-words-requires-2 c κs =
     let start = c .before .before .before .before .before .before .before .before .before in
-    let call = c .before .before .before .put-numbers in
+    let call = c .before .before .before .put-words in
     let same : length (call .last .0) ≡ length (now (start .args .out)) = ap length (call .ensures) ∙ length-put _ _ _ ∙ simp length-set in
     omega (arith, start .pre .0, same)
 
@@ -27,7 +27,7 @@ returns : tie.Need-returns
 returns c =
     let args = c .before .before .before .before .before .before .before .before .before .before .before .before .args in
     counted-numbers _ (args .at) _ _ _ (c .before .before .before .before .before .before .before .before .byte-of .ensures)
-    (c .before .before .before .before .before .before .put-numbers .ensures) (c .before .before .put-numbers2 .ensures)
+    (c .before .before .before .before .before .before .put-words .ensures) (c .before .before .put-words2 .ensures)
 
 same-length : tie.Need-same-length
 same-length c = ap length (returns c) ∙ length-put _ _ _
@@ -42,9 +42,9 @@ put-counted-spec =
     (λ c. search needs)
     slice-write-out-2
     (λ c. search needs)
-    put-numbers-requires
+    put-words-requires
     (λ c. search needs)
     (λ c. search needs)
-    put-numbers-requires-2
+    put-words-requires-2
     same-length
     returns)

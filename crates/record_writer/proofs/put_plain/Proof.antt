@@ -9,7 +9,7 @@ use Rattle.record_writer.proofs.put_plain.Statement.{statement}
 use Rattle.record_writer.proofs.put_plain.Tie as tie
 
 returns : tie.Need-returns
-returns c = plain-bytes _ _ _ (c .before .before .before .before .byte-of .ensures) (c .before .before .put-numbers .ensures)
+returns c = plain-bytes _ _ _ (c .before .before .before .before .byte-of .ensures) (c .before .before .put-words .ensures)
 
 same-length : tie.Need-same-length
 same-length c = ap length (returns c) ∙ length-put _ _ _

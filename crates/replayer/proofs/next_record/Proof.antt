@@ -33,25 +33,25 @@ returns-2 c =
     (names-kind (getD f 0 0) (c .before .before .before .before .before .before .word-of-byte .ensures) (c .before .before .before .before .before .kind-of .ensures) (c .before .before .before .named .given .1))
     (subst (λ (n : ℕ). length f < n) (size-is f (c .before .before .before .named .given .0 .0) (extent .0) (extent .1)) (c .if1 .taken)) refl refl
 
-slice-aggregate-read-numbers : tie.Need-slice-aggregate-read-numbers
-slice-aggregate-read-numbers c =
+slice-aggregate-read-words : tie.Need-slice-aggregate-read-words
+slice-aggregate-read-words c =
     let start = c .before .before .before .before .before .before .before .before .before .before .before .before in
     sym (length-take-le (c .before .before .extent-of .result .numbers) (now (start .args .numbers)) (omega (arith, c .before .before .extent-of .ensures .2, start .pre .1)))
 
-read-numbers-requires : tie.Need-read-numbers-requires
-read-numbers-requires c κs = omega (arith, slice-aggregate-read-numbers c, c .before .if1 .left)
+read-words-requires : tie.Need-read-words-requires
+read-words-requires c κs = omega (arith, slice-aggregate-read-words c, c .before .if1 .left)
 
 slice-aggregate-replayed : tie.Need-slice-aggregate-replayed
 slice-aggregate-replayed c =
     let start = c .before .before .before .before .before .before .before .before .before .before .before .before .before .before .before .before .before in
     let extent = c .before .before .before .before .before .before .before .extent-of .ensures in
-    read-count (now (start .args .bytes)) (c .before .before .before .before .before .before .before .before .before .named .given .0 .0) (extent .0) (extent .1) _ _ (omega (arith, extent .2, start .pre .1)) (c .before .before .before .before .read-numbers .ensures)
+    read-count (now (start .args .bytes)) (c .before .before .before .before .before .before .before .before .before .named .given .0 .0) (extent .0) (extent .1) _ _ (omega (arith, extent .2, start .pre .1)) (c .before .before .before .before .read-words .ensures)
 
 replayed-requires : tie.Need-replayed-requires
 replayed-requires c κs =
     let start = c .before .before .before .before .before .before .before .before .before .before .before .before .before .before .before .before .before in
     let extent = c .before .before .before .before .before .before .before .extent-of .ensures in
-    read-own (now (start .args .bytes)) (c .before .before .before .before .before .before .before .before .before .named .given .0 .0) (extent .0) (extent .1) _ _ (omega (arith, extent .2, start .pre .1)) (c .before .before .before .before .read-numbers .ensures)
+    read-own (now (start .args .bytes)) (c .before .before .before .before .before .before .before .before .before .named .given .0 .0) (extent .0) (extent .1) _ _ (omega (arith, extent .2, start .pre .1)) (c .before .before .before .before .read-words .ensures)
 
 returns-3 : tie.Need-returns-3
 returns-3 c =
@@ -60,7 +60,7 @@ returns-3 c =
     let f = now (start .args .bytes) in
     let k = c .before .before .before .before .before .before .before .before .before .before .before .before .named .given .0 .0 in
     let extent = c .before .before .before .before .before .before .before .before .before .before .extent-of .ensures in
-    let asked = asks f k (extent .0) (extent .1) _ _ (omega (arith, extent .2, start .pre .1)) (c .before .before .before .before .before .before .before .read-numbers .ensures) in
+    let asked = asks f k (extent .0) (extent .1) _ _ (omega (arith, extent .2, start .pre .1)) (c .before .before .before .before .before .before .before .read-words .ensures) in
     let size = size-is f k (extent .0) (extent .1) in
     a-record (names-kind (getD f 0 0) (c .before .before .before .before .before .before .before .before .before .before .before .before .before .before .before .word-of-byte .ensures) (c .before .before .before .before .before .before .before .before .before .before .before .before .before .before .kind-of .ensures) (c .before .before .before .before .before .before .before .before .before .before .before .before .named .given .1))
     (subst (λ (n : ℕ). n ≤ length f) size (c .before .before .before .before .before .before .before .before .before .if1 .left)) (c .before .before .replayed .ensures .0 ∙ ap (numberAt l) asked) size
@@ -81,8 +81,8 @@ next-record-spec =
     add-size
     returns-2
     (λ c. search needs)
-    slice-aggregate-read-numbers
-    read-numbers-requires
+    slice-aggregate-read-words
+    read-words-requires
     (λ c. search needs)
     slice-aggregate-replayed
     replayed-requires

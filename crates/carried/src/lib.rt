@@ -1,0 +1,1 @@
+// Nothing lost on a link, at work: statements and proofs alone.
