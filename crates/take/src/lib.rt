@@ -6,7 +6,7 @@ use book::parts::counts_of;
 use book::parts::held_of;
 use book::parts::taken_of;
 use links::send::take_one;
-use named::take_parts_fit;
+use named_link::take_parts_fit;
 use paper::answer::Answer;
 use paper::answer::Refusal;
 use register::check::LinkCheck;
