@@ -10,7 +10,7 @@ use book::parts::held_of;
 use book::parts::taken_of;
 use book::parts::wide;
 use fit::shelf::stable_fits;
-use versions::link::messages_fit;
+use messages::messages_fit;
 use versions::version::stored_fits;
 ghost use mathlib.Core.Path.{_≡_};
 ghost use mathlib.Core.Bool.{_||_};

@@ -5,7 +5,7 @@ use mathlib.Core.Path.{_∙_, sym}
 use denote.Ref.{now}
 use borrow.Author.Tests.{le-leb, lt-leb}
 use Rattle.loops.proofs.BoolLaws.{and-next, and-stop, test-passed, test-failed}
-use Rattle.versions.proofs.MessageLaws.{link-empty, messages-bearings}
+use Rattle.messages.proofs.MessageLaws.{link-empty, messages-bearings}
 use Rattle.named.proofs.NamedLaws.{arrival-heads, none-arrive}
 use borrow.Author.Needs.{needs}
 use Rattle.named_show.proofs.arrival_fits.Statement.{statement}

@@ -7,7 +7,7 @@ use denote.Ref.{now}
 use Rattle.order.specs.Record.{bearingOf}
 use Rattle.book.specs.Layout.{slot, recordOf}
 use Rattle.fit.specs.Fit.{storedFit}
-use Rattle.versions.proofs.MessageLaws.{bearing-there}
+use Rattle.messages.proofs.MessageLaws.{bearing-there}
 use borrow.Author.Needs.{needs}
 use Rattle.named_show.proofs.place_fits.Statement.{statement}
 use Rattle.named_show.proofs.place_fits.Tie as tie
