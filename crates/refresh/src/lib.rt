@@ -2,7 +2,7 @@
 use book::numbers::Depot;
 use book::numbers::Shelf;
 use book::parts::counts_of;
-use links::send::lowest_seen;
+use lowest::lowest_seen;
 use named_call::refresh_parts_fit;
 use paper::answer::Answer;
 use paper::answer::Refusal;

@@ -8,7 +8,7 @@ use book::parts::Counts;
 use book::parts::counts_of;
 use book::parts::home_of;
 use book::parts::wide;
-use links::send::lowest_seen;
+use lowest::lowest_seen;
 use named_call::base_fits;
 use named_call::move_parts_fit;
 use order::vector::is_covered;

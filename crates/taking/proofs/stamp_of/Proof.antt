@@ -1,9 +1,9 @@
--- `shelf::send::stamp_of` meets its contract: the word that holds the stamp, by the kind.
+-- `taking::stamp_of` meets its contract: the word that holds the stamp, by the kind.
 -- Assumes nothing.
-use Rattle.links.proofs.SendCode.{beat-stamp, copy-stamp}
+use Rattle.taking.proofs.TakeCode.{beat-stamp, copy-stamp}
 use borrow.Author.Needs.{needs}
-use Rattle.links.proofs.send.stamp_of.Statement.{statement}
-use Rattle.links.proofs.send.stamp_of.Tie as tie
+use Rattle.taking.proofs.stamp_of.Statement.{statement}
+use Rattle.taking.proofs.stamp_of.Tie as tie
 
 returns : tie.Need-returns
 returns c = beat-stamp _ _ _ _ (c .before .before .before .slot-at .ensures) (c .before .before .is-beat .ensures) (c .before .if1 .taken)

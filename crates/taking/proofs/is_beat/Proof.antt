@@ -1,13 +1,13 @@
--- `shelf::send::is_beat` meets its contract: the message's first word is its kind.
+-- `taking::is_beat` meets its contract: the message's first word is its kind.
 -- Assumes nothing.
 use Prim.Native.Nat.{ℕ}
 use mathlib.Core.Path.{ap}
 use lib.Dec.{eqb}
 use Rattle.book.specs.Layout.{beatKind}
-use Rattle.links.proofs.SendCode.{kind-place}
+use Rattle.taking.proofs.TakeCode.{kind-place}
 use borrow.Author.Needs.{needs}
-use Rattle.links.proofs.send.is_beat.Statement.{statement}
-use Rattle.links.proofs.send.is_beat.Tie as tie
+use Rattle.taking.proofs.is_beat.Statement.{statement}
+use Rattle.taking.proofs.is_beat.Tie as tie
 
 returns : tie.Need-returns
 returns c = ap (λ (x : ℕ). eqb x beatKind) (kind-place _ _ _ (c .before .slot-at .ensures))

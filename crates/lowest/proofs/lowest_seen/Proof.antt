@@ -1,13 +1,13 @@
--- `shelf::send::lowest_seen` meets its contract. The loop's invariant: each entry is the lowest stamp of the shelves passed.
+-- `lowest::lowest_seen` meets its contract. The loop's invariant: each entry is the lowest stamp of the shelves passed.
 -- Assumes nothing.
 use Prim.Native.Nat.{_≤_, _-_}
 use native.Mathlib.Nat.{add-zero}
 use mathlib.Core.Path.{_≡_, refl, sym}
 use Rattle.links.specs.Send.{lowest, lowestSeen}
-use Rattle.links.proofs.SendCode.{lowest-none, lowest-more, lowest-told, four-same}
+use Rattle.lowest.proofs.LowestCode.{lowest-none, lowest-more, lowest-told, four-same}
 use borrow.Author.Needs.{needs}
-use Rattle.links.proofs.send.lowest_seen.Statement.{statement}
-use Rattle.links.proofs.send.lowest_seen.Tie as tie
+use Rattle.lowest.proofs.lowest_seen.Statement.{statement}
+use Rattle.lowest.proofs.lowest_seen.Tie as tie
 
 abbrev Inv-loop : tie.InvT-loop
 Inv-loop book n p d first₀ second₀ third₀ fourth₀ s₀ first second third fourth s =

@@ -1,10 +1,10 @@
--- `shelf::send::of_other` meets its contract: 0 past the last depot and for this one, else the stamp.
+-- `lowest::of_other` meets its contract: 0 past the last depot and for this one, else the stamp.
 -- Assumes nothing.
 use mathlib.Core.Path.{_∙_, sym}
-use Rattle.links.proofs.SendCode.{told-past, told-own, told-other}
+use Rattle.lowest.proofs.LowestCode.{told-past, told-own, told-other}
 use borrow.Author.Needs.{needs}
-use Rattle.links.proofs.send.of_other.Statement.{statement}
-use Rattle.links.proofs.send.of_other.Tie as tie
+use Rattle.lowest.proofs.of_other.Statement.{statement}
+use Rattle.lowest.proofs.of_other.Tie as tie
 
 returns : tie.Need-returns
 returns c = told-past _ _ _ _ (c .if1 .taken)

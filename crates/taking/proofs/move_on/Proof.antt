@@ -1,12 +1,12 @@
--- `shelf::send::move_on` meets its contract: the two cases.
+-- `taking::move_on` meets its contract: the two cases.
 -- Assumes nothing.
 use mathlib.Core.Path.{_∙_, sym}
 use denote.Ref.{now}
 use lib.ListN.{set}
 use Rattle.loops.proofs.BoolLaws.{pick-true, pick-false}
 use borrow.Author.Needs.{needs}
-use Rattle.links.proofs.send.move_on.Statement.{statement}
-use Rattle.links.proofs.send.move_on.Tie as tie
+use Rattle.taking.proofs.move_on.Statement.{statement}
+use Rattle.taking.proofs.move_on.Tie as tie
 
 returns : tie.Need-returns
 returns c =

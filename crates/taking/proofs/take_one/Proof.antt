@@ -1,14 +1,14 @@
--- `shelf::send::take_one` meets its contract: the stamp is read, then the message moves on.
+-- `taking::take_one` meets its contract: the stamp is read, then the message moves on.
 -- Assumes nothing.
 use Prim.Native.Nat.{_≤_, _<_}
 use native.Mathlib.Omega.{arith}
 use mathlib.Core.Path.{_∙_, ap}
 use denote.Ref.{now}
 use Rattle.book.specs.Layout.{held, taken}
-use Rattle.links.proofs.SendCode.{take-done}
+use Rattle.taking.proofs.TakeCode.{take-done}
 use borrow.Author.Needs.{needs}
-use Rattle.links.proofs.send.take_one.Statement.{statement}
-use Rattle.links.proofs.send.take_one.Tie as tie
+use Rattle.taking.proofs.take_one.Statement.{statement}
+use Rattle.taking.proofs.take_one.Tie as tie
 
 -- a message is there to take, and the link holds no more than it has room for
 limits : (c : tie.After-taken-of) → (c .taken-of .result < c .before .before .held-of .result) × (c .before .before .held-of .result ≤ 16)
