@@ -14,7 +14,7 @@ use Rattle.loops.specs.Loops.{every}
 use Rattle.loops.proofs.BoolLaws.{and-next, and-stop}
 use Rattle.book.specs.Layout.{beatKind, copyKind, kindOf}
 use Rattle.fit.specs.Fit.{between, messageFit}
-use Rattle.versions.proofs.MessageLaws.{message-none}
+use Rattle.messages.proofs.MessageLaws.{message-none}
 use Rattle.wire.specs.Wire.{halfAt}
 use Rattle.frame.specs.declared.Route.{Route}
 use Rattle.frame.specs.Frame.{offsetAt, bodyAt, sizeOf, whom, countIn, startIn, messageAt, messageRight, headRight, messagesRight, formed}

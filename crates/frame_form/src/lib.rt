@@ -1,20 +1,12 @@
 // Whether bytes are a frame of a link, and the messages that stand in them.
 use book::layout::BEAT;
-use book::layout::COPY;
-use book::layout::END;
 use book::layout::LINK_ROOM;
-use book::layout::SLOT_RECORD;
-use book::layout::SLOT_STAMP;
-use book::layout::SLOT_WORDS;
-use book::numbers::Depot;
-use book::numbers::Shelf;
-use book::parts::Counts;
 use frame::FRONT;
 use frame::OFFSET;
 use frame::Route;
 use frame::size_of;
 use frame::whom_of;
-use versions::version::carried_fits;
+use messages::message_fits;
 use wire::half_at;
 use wire::wide_byte;
 use wire::word_at;
@@ -24,8 +16,6 @@ ghost use Prim.Native.Nat.{_+_, _*_, _≤_, _<_};
 ghost use lib.Dec.{eqb};
 ghost use lib.ListN.{length};
 ghost use Rattle.order.specs.Record.{mostDepots};
-ghost use Rattle.book.specs.Layout.{slotWords};
-ghost use Rattle.fit.specs.Fit.{messageFit};
 ghost use Rattle.frame.specs.Frame.{offsetAt, bodyAt, countIn, startIn, entryAt, copyAt, messageAt, messageRight, headRight, messagesRight, formed};
 ghost use Rattle.frame.specs.Promises.{Ready};
 ghost use Rattle.frame_form.specs.Asks.{There};
@@ -80,21 +70,6 @@ pub fn message_at(f: &[u8], way: Route, at: usize) -> [u32; 10]
         return [BEAT, stamp, 0, 0, 0, 0, 0, 0, 0, 0];
     }
     copy_at(f, way, at)
-}
-
-// Whether a message is fit for the link of a shelf out of a depot, as a book's messages that wait are judged.
-fn message_fits(message: &[u32], n: Counts, s: Shelf, from: Depot) -> bool
-    requires { ⌜ (length (now message) ≡ slotWords) × (n .depots ≤ mostDepots) × (0 < n .shelves) ⌝ }
-    ensures { λ r. ⌜ r ≡ messageFit n (s .0) (from .0) (now (message .entry)) ⌝ }
-{
-    let kind = message[0];
-    if kind == BEAT {
-        return message[SLOT_STAMP] <= END;
-    }
-    if kind != COPY {
-        return false;
-    }
-    carried_fits(&message[SLOT_RECORD..SLOT_WORDS], n, s, from)
 }
 
 // Whether message i is right at a place.

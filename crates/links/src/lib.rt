@@ -1,2 +1,2 @@
-// What goes on a link and leaves it: sending, taking, and the lowest stamp seen.
+// What goes on a link and leaves it: the definitions of sending, taking and the lowest stamp seen, with their laws; and sending itself.
 pub mod send;

@@ -8,7 +8,7 @@ use book::numbers::Depot;
 use book::numbers::Shelf;
 use book::parts::Counts;
 use book::words::write_words;
-use named::bearing_at;
+use named_call::bearing_at;
 use order::record::DIAMETER;
 use order::record::MOST_DEPOTS;
 use order::record::RECORD_WORDS;

@@ -23,7 +23,7 @@ use Rattle.fit.specs.Fit.{homesFit, crewsFit, shelvesFit, linksFit, storesFit, 
 use Rattle.named.specs.Named.{headsOutFit, waitingFit, placesFit, arrivalFit, showFit, tickParts, takeParts, refreshParts, homeParts, readParts, writeParts, moveParts, listedFit, pageParts, listParts, isList, allBelow}
 use Rattle.named.specs.Named.{baseFit, tickFit, takeFit, refreshFit, readFit, writeFit, moveFit, listFit}
 use Rattle.fit.proofs.FitLaws.{counts-within, IsFit, fit-open}
-use Rattle.versions.proofs.MessageLaws.{and-flat, link-heads, link-bearings}
+use Rattle.messages.proofs.MessageLaws.{and-flat, link-heads, link-bearings}
 
 -- a test that is asked only of a number in range
 unless : (a : Bool) {b : Bool} → (a ≡ false → b ≡ true) → a || b ≡ true

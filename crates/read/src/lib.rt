@@ -5,7 +5,7 @@ use book::layout::stored_at;
 use book::numbers::Bearing;
 use book::numbers::Crew;
 use book::parts::counts_of;
-use named::read_parts_fit;
+use named_call::read_parts_fit;
 use order::record::DIAMETER;
 use order::record::RECORD_WORDS;
 use order::record::VALUE;

@@ -2,8 +2,8 @@
 use book::numbers::Depot;
 use book::numbers::Shelf;
 use book::parts::counts_of;
-use links::send::lowest_seen;
-use named::refresh_parts_fit;
+use lowest::lowest_seen;
+use named_call::refresh_parts_fit;
 use paper::answer::Answer;
 use paper::answer::Refusal;
 use register::check::PlaceCheck;

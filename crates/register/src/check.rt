@@ -8,7 +8,7 @@ use book::numbers::DepotCheck;
 use book::numbers::Shelf;
 use book::numbers::ShelfCheck;
 use book::parts::counts_of;
-use named::base_fits;
+use named_call::base_fits;
 use paper::answer::Refusal;
 ghost use Rattle.register.specs.Checks.{placeNumber, PlaceChecked, askedNumber, AskChecked, linkNumber, LinkChecked};
 

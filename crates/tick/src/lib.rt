@@ -7,7 +7,7 @@ use book::parts::clock_of;
 use book::parts::counts_of;
 use links::send::is_roomy;
 use links::send::send;
-use named::tick_parts_fit;
+use named_link::tick_parts_fit;
 use paper::answer::Answer;
 use paper::answer::Refusal;
 use register::check::PlaceCheck;

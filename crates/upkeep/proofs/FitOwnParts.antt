@@ -19,7 +19,7 @@ use Rattle.book.specs.declared.parts.Counts.{Counts}
 use Rattle.book.specs.Layout.{bookWords, end, countsOf, home, stable, seen, linkOf, held, taken, slot, recordOf}
 use Rattle.fit.specs.Fit.{countsFit, homeFit, inRange, othersInRange, crewFit, clockFit, stableFit, seenFit, headFit, linkFit, storedFit, homesFit, Within}
 use Rattle.named.specs.Named.{headsOutFit, waitingFit, placesFit, arrivalFit, showFit, tickParts, takeParts, refreshParts, homeParts, readParts, writeParts, baseFit}
-use Rattle.versions.proofs.MessageLaws.{link-bearings}
+use Rattle.messages.proofs.MessageLaws.{link-bearings}
 use Rattle.named.proofs.NamedLaws.{base-open}
 use Rattle.shelf.proofs.AllLaws.{AllOf, all-slots, all-slots-at}
 use Rattle.shelf.proofs.ShowLaws.{takenSlots, untakenSlots}

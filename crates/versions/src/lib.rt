@@ -1,3 +1,2 @@
-// Whether versions are fit: stored, and carried by a link; and the links that carry them.
-pub mod link;
+// Whether versions are fit: stored, and carried by a link.
 pub mod version;

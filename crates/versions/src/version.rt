@@ -6,49 +6,16 @@ use book::numbers::Depot;
 use book::numbers::Shelf;
 use book::parts::Counts;
 use book::parts::wide;
-use card::card_fits;
+use look::has_card;
+use look::look;
 use order::record::BEARING;
-use order::record::DIAMETER;
-use order::record::ORIGIN;
 use order::record::RECORD_WORDS;
-use order::record::VECTOR;
-use order::record::WIDTH;
 ghost use mathlib.Core.Path.{_≡_};
-ghost use Prim.Native.Nat.{_%_, _≤_, _<_, max};
+ghost use Prim.Native.Nat.{_%_, _≤_, _<_};
 ghost use lib.ListN.{length};
-ghost use Rattle.order.specs.Record.{mostDepots, recordWords, diameterOf, widthOf, originOf, vectorOf};
-ghost use Rattle.card.specs.Card.{cardFit};
+ghost use Rattle.order.specs.Record.{mostDepots, recordWords};
 ghost use Rattle.book.specs.Layout.{bookWords, bearingRoom};
 ghost use Rattle.fit.specs.Fit.{carriedFit, keptFit, storedFit};
-ghost use Rattle.versions.specs.Look.{highest, entryOf};
-
-// What one look over a record's entries finds: the highest entry, the origin, and the stamp, which is the origin's entry, or 0 where the
-// origin is no depot.
-struct Found {
-    highest: u32,
-    origin: usize,
-    stamp: u32,
-}
-
-fn larger(a: u32, b: u32) -> u32
-    ensures { λ r. ⌜ r ≡ max a b ⌝ }
-{
-    if a < b {
-        return b;
-    }
-    a
-}
-
-// The entry of depot o, or 0 where o is none of the n depots.
-fn entry_of(version: &[u32], n: usize, o: usize) -> u32
-    requires { ⌜ (length (now version) ≡ recordWords) × (n ≤ mostDepots) ⌝ }
-    ensures { λ r. ⌜ r ≡ entryOf n o (vectorOf (now (version .entry))) ⌝ }
-{
-    if n <= o {
-        return 0;
-    }
-    version[VECTOR + o]
-}
 
 // The shelf of a bearing. A division by a numeral is cheaper than one by a number.
 fn shelf_of(bearing: usize, shelves: usize) -> usize
@@ -65,34 +32,6 @@ fn shelf_of(bearing: usize, shelves: usize) -> usize
         return bearing % 4;
     }
     bearing % shelves
-}
-
-fn look(version: &[u32], n: usize) -> Found
-    requires { ⌜ (length (now version) ≡ recordWords) × (n ≤ mostDepots) ⌝ }
-    ensures { λ r. ⌜ (r .highest ≡ highest n (vectorOf (now (version .entry)))) × (r .origin ≡ originOf (now (version .entry)))
-        × (r .stamp ≡ entryOf n (originOf (now (version .entry))) (vectorOf (now (version .entry)))) ⌝ }
-{
-    let origin = wide(version[ORIGIN]);
-    let mut top: u32 = 0;
-    let mut x = 0;
-    while x < n {
-        top = larger(top, version[VECTOR + x]);
-        x += 1;
-    }
-    let stamp = entry_of(version, n, origin);
-    Found {
-        highest: top,
-        origin: origin,
-        stamp: stamp,
-    }
-}
-
-// Whether a record holds a card.
-fn has_card(version: &[u32]) -> bool
-    requires { ⌜ length (now version) ≡ recordWords ⌝ }
-    ensures { λ r. ⌜ r ≡ cardFit (diameterOf (now (version .entry))) (widthOf (now (version .entry))) ⌝ }
-{
-    card_fits(version[DIAMETER], version[WIDTH])
 }
 
 // Whether a record may be carried by the link of a shelf out of a depot.

@@ -6,7 +6,7 @@ use book::numbers::Depot;
 use book::numbers::DepotCheck;
 use book::parts::Counts;
 use book::parts::counts_of;
-use named::base_fits;
+use named_call::base_fits;
 use order::record::RECORD_WORDS;
 use order::record::is_above;
 use paper::answer::Refusal;

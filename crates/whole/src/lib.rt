@@ -11,7 +11,7 @@ use fit::counts::counts_fit;
 use fit::crews::crew_fits;
 use fit::crews::homes_fit;
 use fit::shelf::shelf_fits;
-use versions::link::link_fits;
+use messages::link_fits;
 use versions::version::stored_fits;
 ghost use mathlib.Core.Path.{_≡_};
 ghost use mathlib.Core.Bool.{_||_};

@@ -9,7 +9,7 @@ use card::CardCheck;
 use card::card_of;
 use links::send::is_roomy;
 use making::write_version;
-use named::write_parts_fit;
+use named_call::write_parts_fit;
 use paper::answer::LAST_DAY;
 use paper::answer::Payload;
 use paper::answer::Refusal;

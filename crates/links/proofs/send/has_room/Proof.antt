@@ -1,4 +1,4 @@
--- `shelf::send::has_room` meets its contract: a link to itself is none, any other is counted.
+-- `links::send::has_room` meets its contract: a link to itself is none, any other is counted.
 -- Assumes nothing.
 use Prim.Native.Nat.{ℕ}
 use mathlib.Core.Path.{_∙_, sym, ap}

@@ -1,4 +1,4 @@
--- `shelf::send::is_roomy` meets its contract. The loop's invariant: the links passed have room.
+-- `links::send::is_roomy` meets its contract. The loop's invariant: the links passed have room.
 -- Assumes nothing.
 use Prim.Native.Nat.{ℕ, _≤_, _-_}
 use native.Mathlib.Nat.{le-antisymm}

@@ -1,4 +1,4 @@
--- `shelf::send::send` meets its contract. The loop's invariant: the words are those of the turns so far; a link whose turn comes has the room it had.
+-- `links::send::send` meets its contract. The loop's invariant: the words are those of the turns so far; a link whose turn comes has the room it had.
 -- Assumes nothing.
 use Prim.Native.Nat.{ℕ, _≤_, _<_, _-_}
 use native.Mathlib.Nat.{le-antisymm}

@@ -1,4 +1,4 @@
--- `shelf::send::send_to` meets its contract: the message stands in the first free slot, and the head counts one more.
+-- `links::send::send_to` meets its contract: the message stands in the first free slot, and the head counts one more.
 -- Assumes nothing.
 use Prim.Native.Nat.{_<_}
 use native.Mathlib.Omega.{arith}

@@ -1,11 +1,11 @@
--- `fit::version::kept_fits` meets its contract: the tests of one look, in their order.
+-- `versions::version::kept_fits` meets its contract: the tests of one look, in their order.
 -- Assumes nothing.
 use mathlib.Core.Path.{_∙_, refl, sym, ap}
 use lib.Dec.{eqb}
 use borrow.Author.Needs.{needs}
 use borrow.Author.Tests.{le-leb, lt-leb, lt-ltb, eq-eqb, ne-eqb}
 use Rattle.loops.proofs.BoolLaws.{test-passed, test-failed}
-use Rattle.versions.proofs.LookLaws.{kept-looked, positive}
+use Rattle.look.proofs.LookLaws.{kept-looked, positive}
 use Rattle.versions.proofs.version.kept_fits.Statement.{statement}
 use Rattle.versions.proofs.version.kept_fits.Tie as tie
 

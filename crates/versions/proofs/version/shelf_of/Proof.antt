@@ -2,7 +2,7 @@
 -- Assumes nothing.
 use mathlib.Core.Path.{refl}
 use borrow.Author.Needs.{needs}
-use Rattle.versions.proofs.LookLaws.{mod-by}
+use Rattle.look.proofs.LookLaws.{mod-by}
 use Rattle.versions.proofs.version.shelf_of.Statement.{statement}
 use Rattle.versions.proofs.version.shelf_of.Tie as tie
 

@@ -1,4 +1,4 @@
--- `fit::version::stored_fits` meets its contract: the part at the stored version's place is the record.
+-- `versions::version::stored_fits` meets its contract: the part at the stored version's place is the record.
 -- Assumes nothing.
 use mathlib.Core.Path.{_∙_, ap}
 use denote.Ref.{now}
