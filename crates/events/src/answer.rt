@@ -55,13 +55,7 @@ fn run_event(
 }
 
 // What a line says is done, answered and recorded.
-fn say_line(
-    book: &mut [u32],
-    line: &[u8],
-    out: &mut [u8],
-    log: &mut [u8],
-    at: Places,
-) -> Places
+fn say_line(book: &mut [u32], line: &[u8], out: &mut [u8], log: &mut [u8], at: Places) -> Places
     requires { ⌜ (at .out + answerRoom ≤ length (now out)) × (at .log + recordRoom ≤ length (now log)) ⌝ }
     ensures { λ r. ⌜ now (book .exit) ≡ readingBook (now (book .entry)) (reading (now (line .entry))) ⌝ }
     ensures { λ r. ⌜ Wrote (now (out .entry)) (at .out) (readingSays (now (book .entry)) (reading (now (line .entry)))) (now (out .exit)) (r .out) ⌝ }

@@ -118,9 +118,9 @@ cut-behind {l} rs ss k d =
     let c : ℕ = length (journal rs) + k in
     let n : ℕ = wholeIn k ss in
     let bytes : take c (journal (rs ++ ss)) ≡ journal rs ++ take k (journal ss)
-          = ap (take c) (journal-append rs ss) ∙ take-append-add (journal rs) (journal ss) k in
+    = ap (take c) (journal-append rs ss) ∙ take-append-add (journal rs) (journal ss) k in
     let firsts : take (wholeIn c (rs ++ ss)) (rs ++ ss) ≡ rs ++ take n ss
-          = ap (λ (i : ℕ). take i (rs ++ ss)) (whole-behind k rs ss) ∙ take-append-add rs ss n in
+    = ap (λ (i : ℕ). take i (rs ++ ss)) (whole-behind k rs ss) ∙ take-append-add rs ss n in
     ap (replay (start l)) (sym bytes)
     ∙ recovers-cut c d
     ∙ ap₂ (λ (q : List Request) (i : ℕ). within (last l q) i (length (journal q)) (restIn c (rs ++ ss))) firsts (whole-behind k rs ss)

@@ -45,13 +45,7 @@ fn feed_byte(
 }
 
 // The bytes of a piece, each of which has room for an answer and a record. The places after the answers and the records.
-fn feed(
-    book: &mut [u32],
-    line: &mut [u8],
-    piece: &[u8],
-    out: &mut [u8],
-    log: &mut [u8],
-) -> Places
+fn feed(book: &mut [u32], line: &mut [u8], piece: &[u8], out: &mut [u8], log: &mut [u8]) -> Places
     requires { ⌜ Holder (now line) × (answerRoom * length (now piece) ≤ length (now out)) × (recordRoom * length (now piece) ≤ length (now log)) ⌝ }
     ensures { λ r. ⌜ now (book .exit) ≡ bookThrough (now (book .entry)) (lineIn (now (line .entry))) (now (piece .entry)) ⌝ }
     ensures { λ r. ⌜ Holder (now (line .exit)) × (lineIn (now (line .exit)) ≡ lineThrough (lineIn (now (line .entry))) (now (piece .entry))) ⌝ }
