@@ -1,2 +1,3 @@
 pub mod RecoveryLaws
 pub mod Pieces
+pub mod Journals

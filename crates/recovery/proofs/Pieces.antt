@@ -1,24 +1,19 @@
--- A journal may be recovered in pieces, cut anywhere: recovery counts on from where it stands. And its promise leaves one outcome.
+-- The promise of recovery leaves one outcome; and a journal may be recovered in pieces, cut anywhere: recovery counts on from where it stands.
 -- Assumes nothing.
 use Prim.Native.Nat.{ℕ, _+_}
 use native.Mathlib.Omega.{arith}
-use mathlib.Core.Path.{_≡_, refl, sym, _∙_, ap, ap₂, subst}
-use mathlib.Core.Logic.{⊎-elim}
-use mathlib.Core.Bool.{true, false}
-use mathlib.Core.List.{List, [], _∷_, _++_, append-assoc}
-use lib.Dec.{eqb}
-use lib.ListN.{length, drop}
+use mathlib.Core.Path.{_≡_, sym, _∙_, ap, ap₂}
+use mathlib.Core.List.{List, [], _++_, append-assoc}
+use lib.ListN.{drop}
 use lib.Seq.{drop-append-seam}
-use Rattle.loops.proofs.BoolLaws.{decided, pick-true, pick-false}
-use Rattle.upkeep.specs.Requests.{Request, numberAt, bookAfter, last}
+use Rattle.upkeep.specs.Requests.{last}
 use Rattle.wire.specs.Wire.{byteLimit, Below}
-use Rattle.journal.specs.declared.recover.Fault.{Fault}
-use Rattle.journal.specs.declared.recover.Fault.the-variants.{Fine, Refused, Strange}
-use Rattle.journal.specs.Record.{Piece, begun, strange, whole, piece}
-use Rattle.journal.specs.Journal.{journal, Recovered, within, start, takeIn, stepBy, step, replay, endOf}
+use Rattle.journal.specs.declared.recover.Fault.the-variants.{Fine}
+use Rattle.journal.specs.Journal.{journal, Recovered, within, start, replay, further, endOf}
 use Rattle.journal.proofs.ByRecord.{pieces}
 use Rattle.journal.proofs.Theorems.{recovers}
 use Rattle.journal.proofs.Histories.{only-histories}
+use Rattle.journal.proofs.Pieces.{replay-further}
 use Rattle.recovery.specs.declared.Recovered as answer
 use Rattle.recovery.specs.Promises.{Recovery, together}
 
@@ -30,44 +25,13 @@ recover-unique l f p q =
     let e = p .end ∙ sym (q .end) in
     (λ i. record { done = n i; bytes = m i; end = e i }, p .book ∙ sym (q .book))
 
--- ---- counting on
-
-module _ (n m : ℕ) where
-  -- n records and m bytes more are counted
-  onto : Recovered → Recovered
-  onto s = record { book = s .book; done = n + s .done; bytes = m + s .bytes; rest = s .rest; fault = s .fault }
-
-  onto-take : (s : Recovered) (p : List ℕ) (x : Piece) → takeIn (onto s) p x ≡ onto (takeIn s p x)
-  unfolding onto takeIn
-  onto-take s p begun = refl
-  onto-take s p strange = refl
-  onto-take s p (whole r) =
-      ⊎-elim
-      (λ (t : eqb (numberAt (s .book) r) 0 ≡ true).
-      let i : n + s .done + 1 ≡ n + (s .done + 1) = omega arith in
-      let j : m + s .bytes + length p ≡ m + (s .bytes + length p) = omega arith in
-      pick-true _ _ t ∙ ap₂ (λ (x y : ℕ). within (bookAfter (s .book) r) x y []) i j ∙ sym (ap onto (pick-true _ _ t)))
-      (λ (t : eqb (numberAt (s .book) r) 0 ≡ false). pick-false _ _ t ∙ sym (ap onto (pick-false _ _ t)))
-      (decided (eqb (numberAt (s .book) r) 0))
-
-  onto-step : (e : Fault) (s : Recovered) (b : ℕ) → stepBy e (onto s) b ≡ onto (stepBy e s b)
-  unfolding stepBy onto
-  onto-step Fine s b = onto-take s (s .rest ++ (b ∷ [])) (piece (s .rest ++ (b ∷ [])))
-  onto-step (Refused k) s b = refl
-  onto-step Strange s b = refl
-
-  onto-replay : (s : Recovered) (f : List ℕ) → replay (onto s) f ≡ onto (replay s f)
-  unfolding replay step onto
-  onto-replay s [] = refl
-  onto-replay s (b ∷ f) = ap (λ (x : Recovered). replay x f) (onto-step (s .fault) s b) ∙ onto-replay (step s b) f
-
 -- ---- in two pieces
 
 -- recovered f, and then the rest of it with g behind it, gives what f and g in one piece give
 pub recover-pieces :
     (f g : List ℕ) {l l₁ l₂ : List ℕ} {a b : answer.Recovered} → Below byteLimit f → Recovery l f a l₁ → Recovery l₁ (drop (a .bytes) f ++ g) b l₂ →
     Recovery l (f ++ g) (together a b) l₂
-unfolding onto endOf
+unfolding further endOf
 recover-pieces f g {l} {l₁} {l₂} {a} {b} small p q =
     let t = only-histories l f small in
     let s : Recovered = replay (start l) f in
@@ -80,18 +44,18 @@ recover-pieces f g {l} {l₁} {l₂} {a} {b} small p q =
     ∙ append-assoc (journal (t .requests)) rest g
     ∙ ap (λ (x : List ℕ). journal (t .requests) ++ (x ++ g)) (sym behind) in
     let book : last l (t .requests) ≡ l₁ = sym (p .book ∙ t .book) in
-    let on : replay (start l) (f ++ g) ≡ onto (a .done) (a .bytes) (replay (start l₁) (drop (a .bytes) f ++ g))
+    let on : replay (start l) (f ++ g) ≡ further (a .done) (a .bytes) (replay (start l₁) (drop (a .bytes) f ++ g))
     = ap (replay (start l)) both
     ∙ pieces (start l) (journal (t .requests)) (drop (a .bytes) f ++ g)
     ∙ ap (λ (x : Recovered). replay x (drop (a .bytes) f ++ g)) (recovers (t .history) ∙ counted book (p .done ∙ t .done) (p .bytes ∙ t .bytes))
-    ∙ onto-replay (a .done) (a .bytes) (start l₁) (drop (a .bytes) f ++ g) in record {
+    ∙ replay-further (a .done) (a .bytes) (start l₁) (drop (a .bytes) f ++ g) in record {
       done = ap (λ (n : ℕ). a .done + n) (q .done) ∙ sym (ap (λ (x : Recovered). x .done) on);
       bytes = ap (λ (n : ℕ). a .bytes + n) (q .bytes) ∙ sym (ap (λ (x : Recovered). x .bytes) on);
       end = q .end ∙ sym (ap endOf on);
       book = q .book ∙ sym (ap (λ (x : Recovered). x .book) on);
     }
   where
-    counted : {x y : List ℕ} {i j n m : ℕ} → x ≡ y → n ≡ i → m ≡ j → within x i j [] ≡ onto n m (start y)
+    counted : {x y : List ℕ} {i j n m : ℕ} → x ≡ y → n ≡ i → m ≡ j → within x i j [] ≡ further n m (start y)
     counted {y = y} {i = i} {j = j} {n = n} {m = m} e d c =
         let p : i ≡ n + 0 = omega (arith, d) in
         let q : j ≡ m + 0 = omega (arith, c) in
