@@ -15,7 +15,10 @@ use std::fmt;
 
 use crate::event::{Event, BUFFER};
 use crate::random::Random;
+#[cfg(feature = "library")]
+pub use crate::register::Library;
 use crate::register::{list_answer, read_answer, write_answer, NO_ROOM};
+pub use crate::register::Straight;
 use straight::{Answer, Request, BAD_RECORD};
 
 /// The functions of `include/depot_register.h` that keep a register. `record`, `out` and `image` are written as the header
@@ -30,9 +33,6 @@ pub trait Keeper {
 /// The words of what a call with its record tells, and of what recovery does.
 pub const RECORDED_WORDS: usize = 65;
 pub const RECOVERED_COUNTS: usize = 2;
-
-/// The straight version.
-pub struct Straight;
 
 impl Keeper for Straight {
     fn recorded(&self, book: &mut [u32], kind: u32, numbers: &[u32], record: &mut [u8], out: &mut [u32]) -> u32 {
@@ -67,10 +67,6 @@ impl Keeper for Straight {
         straight::load_image(book, image).err().unwrap_or(0)
     }
 }
-
-/// The static library.
-#[cfg(feature = "library")]
-pub struct Library;
 
 #[cfg(feature = "library")]
 impl Keeper for Library {
