@@ -44,7 +44,7 @@ module _ (n m : ℕ) where
   step-further (Refused k) s x = refl
   step-further Strange s x = refl
 
-  replay-further : (s : Recovered) (f : List ℕ) → replay (further n m s) f ≡ further n m (replay s f)
+  pub replay-further : (s : Recovered) (f : List ℕ) → replay (further n m s) f ≡ further n m (replay s f)
   unfolding replay step further
   replay-further s [] = refl
   replay-further s (x ∷ f) = ap (λ (t : Recovered). replay t f) (step-further (s .fault) s x) ∙ replay-further (step s x) f

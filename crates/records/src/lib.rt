@@ -1,4 +1,3 @@
-// The records of a journal: their bytes, written and told apart. docs/JOURNAL.md tells them.
+// The kinds of record of a journal, and what each asks. docs/JOURNAL.md tells them.
 pub mod asking;
 pub mod kinds;
-pub mod writing;

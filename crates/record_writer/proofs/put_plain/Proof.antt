@@ -1,12 +1,12 @@
--- `records::writing::put_plain` meets its contract: the kind's byte, then the numbers.
+-- `record_writer::put_plain` meets its contract: the kind's byte, then the numbers.
 -- Assumes nothing.
 use mathlib.Core.Path.{_∙_, ap}
 use lib.ListN.{length}
 use Rattle.book.proofs.WordsLaws.{length-put}
-use Rattle.records.proofs.WritingLaws.{plain-bytes}
+use Rattle.record_writer.proofs.WritingLaws.{plain-bytes}
 use borrow.Author.Needs.{needs}
-use Rattle.records.proofs.writing.put_plain.Statement.{statement}
-use Rattle.records.proofs.writing.put_plain.Tie as tie
+use Rattle.record_writer.proofs.put_plain.Statement.{statement}
+use Rattle.record_writer.proofs.put_plain.Tie as tie
 
 returns : tie.Need-returns
 returns c = plain-bytes _ _ _ (c .before .before .before .before .byte-of .ensures) (c .before .before .put-words .ensures)

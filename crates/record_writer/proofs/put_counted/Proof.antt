@@ -1,14 +1,14 @@
--- `records::writing::put_counted` meets its contract: the kind's byte, the byte that counts, then the numbers.
+-- `record_writer::put_counted` meets its contract: the kind's byte, the byte that counts, then the numbers.
 -- Assumes nothing.
 use native.Mathlib.Omega.{arith}
 use mathlib.Core.Path.{_≡_, _∙_, ap}
 use denote.Ref.{now}
 use lib.ListN.{length, length-set}
 use Rattle.book.proofs.WordsLaws.{length-put}
-use Rattle.records.proofs.WritingLaws.{counted-numbers}
+use Rattle.record_writer.proofs.WritingLaws.{counted-numbers}
 use borrow.Author.Needs.{needs}
-use Rattle.records.proofs.writing.put_counted.Statement.{statement}
-use Rattle.records.proofs.writing.put_counted.Tie as tie
+use Rattle.record_writer.proofs.put_counted.Statement.{statement}
+use Rattle.record_writer.proofs.put_counted.Tie as tie
 
 slice-write-out-2 : tie.Need-slice-write-out-2
 slice-write-out-2 c = simp length-set (omega (arith, c .before .before .before .before .pre .0))

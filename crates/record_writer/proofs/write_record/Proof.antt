@@ -1,12 +1,12 @@
--- `records::writing::write_record` meets its contract: each request's numbers, behind its head.
+-- `record_writer::write_record` meets its contract: each request's numbers, behind its head.
 -- Assumes nothing.
 use native.Mathlib.Omega.{arith}
 use denote.Ref.{now}
 use Rattle.journal.specs.Record.{formOf, headBy, headSize, kindIn, numbersOf, countBy, headOf, recordBytes}
-use Rattle.records.proofs.WritingLaws.{long-as, count-as, written-as}
+use Rattle.record_writer.proofs.WritingLaws.{long-as, count-as, written-as}
 use borrow.Author.Needs.{needs}
-use Rattle.records.proofs.writing.write_record.Statement.{statement}
-use Rattle.records.proofs.writing.write_record.Tie as tie
+use Rattle.record_writer.proofs.write_record.Statement.{statement}
+use Rattle.record_writer.proofs.write_record.Tie as tie
 
 put-counted-requires : tie.Need-put-counted-requires
 unfolding formOf headBy headSize kindIn numbersOf countBy headOf recordBytes

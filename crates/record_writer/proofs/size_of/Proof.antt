@@ -1,12 +1,12 @@
--- `records::writing::size_of` meets its contract: the bytes of the head, and four for each number.
+-- `record_writer::size_of` meets its contract: the bytes of the head, and four for each number.
 -- Assumes nothing.
 use native.Mathlib.Omega.{arith}
 use denote.Ref.{now}
 use Rattle.journal.specs.Record.{formOf, headBy, headSize, kindIn, numbersOf}
-use Rattle.records.proofs.WritingLaws.{long-as}
+use Rattle.record_writer.proofs.WritingLaws.{long-as}
 use borrow.Author.Needs.{needs}
-use Rattle.records.proofs.writing.size_of.Statement.{statement}
-use Rattle.records.proofs.writing.size_of.Tie as tie
+use Rattle.record_writer.proofs.size_of.Statement.{statement}
+use Rattle.record_writer.proofs.size_of.Tie as tie
 
 pub size-of-spec : {M : Type 1} → statement M
 unfolding formOf headBy headSize kindIn numbersOf

@@ -1,7 +1,7 @@
-// The record of a request: how many bytes it has, and how it is written.
-use crate::kinds::byte_of;
+// The record of a request: how many bytes it has, and how it is written. docs/JOURNAL.md tells them.
 use journal::record::Kind;
 use numbers::put_words;
+use records::kinds::byte_of;
 use request::ask::Request;
 ghost use mathlib.Core.Path.{_≡_};
 ghost use mathlib.Core.List.{_∷_, _++_};

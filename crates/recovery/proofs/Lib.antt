@@ -1,0 +1,3 @@
+pub mod RecoveryLaws
+pub mod Pieces
+pub mod Journals
