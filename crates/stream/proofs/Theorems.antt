@@ -5,7 +5,7 @@
 use Prim.Native.Nat.{ℕ, zero, suc, _≤_, _<_}
 use native.Mathlib.Omega.{arith}
 use mathlib.Core.Path.{_≡_, refl, sym, _∙_, ap, ap₂}
-use mathlib.Core.Logic.{⊎-elim}
+use mathlib.Core.Logic.{inl, ⊎-elim}
 use mathlib.Core.List.{List, [], _∷_, _++_, append-nil, append-assoc}
 use lib.Dec.{eqb}
 use lib.ListN.{length, take, replicate, length-append, length-take}
@@ -14,10 +14,11 @@ use borrow.Author.Tests.{eq-eqb, ne-eqb}
 use Rattle.loops.proofs.BoolLaws.{le-or-lt, eq-or-ne, pick-true, pick-false}
 use Rattle.line.specs.Reading.{Reading, reading}
 use Rattle.line.proofs.LineLaws.{reading-cut}
+use Rattle.journal.specs.Journal.{replay}
 use Rattle.events.specs.Answering.{lineFeed, Giving, readingSays, readingDone, readingBook, answerTo, doneBy, bookAfter}
 use Rattle.stream.specs.Stream.{linesFrom, linesOf, givenTo, doneIn, bookAfterAll, zeroBook, output, lineAt, bookAt, givesAt, lineThrough, bookThrough, givesThrough}
 use Rattle.stream.specs.Stream.{givesLast, bookLast, linePiece, bookPiece, givesPiece, linePieces, bookPieces, givesPieces, saysPieces, donePieces, joined, Pieces}
-use Rattle.stream.specs.Stream.{lineIn, Holder, Served}
+use Rattle.stream.specs.Stream.{lineIn, Holder, Began, Served}
 use Rattle.stream.proofs.StreamLaws.{line-ends, book-ends, gives-ends, line-grows, line-full, book-stays, gives-nothing, line-append, book-append, gives-append, piece-some, piece-gives}
 
 -- ---- what is kept of a line serves for the line
@@ -195,6 +196,11 @@ book-piece-more : (l p : List ℕ) (cs : List (List ℕ)) (c : List ℕ) → boo
 unfolding bookPieces linePieces
 book-piece-more l p [] c = refl
 book-piece-more l p (x ∷ cs) c = book-piece-more (bookPiece l p x) (linePiece p x) cs c
+
+-- the desk begins with a book of zeros
+pub began-zeros : Began zeroBook
+unfolding replay
+began-zeros = record { from = zeroBook; sound = inl refl; bytes = []; book = refl }
 
 -- the desk starts: no line is begun
 pub served-start : (l : List ℕ) → Served l l (replicate 122 0)

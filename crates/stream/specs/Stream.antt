@@ -2,12 +2,16 @@
 -- Assumes nothing.
 use Prim.Native.Nat.{ℕ, _≤_, _<_}
 use mathlib.Core.Path.{_≡_}
+use mathlib.Core.Logic.{_⊎_}
+use mathlib.Core.Bool.{true}
 use mathlib.Core.List.{List, [], _∷_, _++_}
 use lib.Dec.{eqb, ltb}
 use lib.ListN.{length, replicate, take, getD}
 use Rattle.loops.specs.Loops.{pick}
 use Rattle.book.specs.Layout.{bookWords}
+use Rattle.fit.specs.Fit.{fit}
 use Rattle.upkeep.specs.Requests.{Request}
+use Rattle.journal.specs.Journal.{start, replay}
 use Rattle.events.specs.Answering.{lineFeed, Giving, answerTo, doneBy, recordTo, bookAfter}
 
 -- ---- what is promised of a whole input
@@ -153,9 +157,23 @@ pub record Holder (m : List ℕ) : Type 0 where
   pub room : length m ≡ lineRoom
   pub counted : getD m keptBytes 0 ≤ keptBytes
 
--- ---- the loop of the desk: the book is the one after some pieces, from the book l₀ on, and the buffer holds the line that they leave begun
+-- ---- the loop of the desk
+
+-- the book l that a desk begins with: what recovery makes of some bytes, of none to begin with, from a book of zeros or from the fit book of an image
+pub record Began (l : List ℕ) : Type 0 where
+  pub from : List ℕ
+  pub sound : (from ≡ zeroBook) ⊎ (fit from ≡ true)
+  pub bytes : List ℕ
+  pub book : l ≡ replay (start from) bytes .book
+
+-- the book l is the one after some pieces, from the book l₀ on, and the buffer m holds the line that they leave begun
 pub record Served (l₀ l m : List ℕ) : Type 0 where
   pub holder : Holder m
   pub pieces : List (List ℕ)
   pub book : l ≡ bookPieces l₀ [] pieces
   pub line : lineIn m ≡ linePieces [] pieces
+
+-- the book alone
+pub record Left (l₀ l : List ℕ) : Type 0 where
+  pub pieces : List (List ℕ)
+  pub book : l ≡ bookPieces l₀ [] pieces

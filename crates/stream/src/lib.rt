@@ -92,6 +92,7 @@ pub fn keep_piece(
     ensures { λ r. ⌜ Holder (now (line .exit)) × (lineIn (now (line .exit)) ≡ linePiece (lineIn (now (line .entry))) (now (piece .entry))) ⌝ }
     ensures { λ r. ⌜ Wrote (now (out .entry)) 0 (saysPiece (now (book .entry)) (lineIn (now (line .entry))) (now (piece .entry))) (now (out .exit)) (r .out) ⌝ }
     ensures { λ r. ⌜ Wrote (now (log .entry)) 0 (logPiece (now (book .entry)) (lineIn (now (line .entry))) (now (piece .entry))) (now (log .exit)) (r .log) ⌝ }
+    ensures { λ r. ⌜ (r .out ≤ length (now (out .exit))) × (r .log ≤ length (now (log .exit))) ⌝ }
 {
     if piece.len() == 0 {
         return finish(book, line, out, log);
