@@ -31,7 +31,7 @@ use Rattle.bridge.proofs.DatesExist.{dates-exist}
 
 -- the desk's lines
 desk-as-model : (l : List ℕ) (n : Counts) (homes : List ℕ) → setupNumber l n homes ≡ 0 → DeskAsModel n homes
-unfolding answerTo events.bookAfter readingSays readingBook eventSays eventBook after
+unfolding answerTo events.bookAfterLine readingSays readingBook eventSays eventBook after
 desk-as-model l n homes done = record {
   says = λ h line e ns q r a.
       ap (λ (x : Reading). readingSays (bookOf n homes h) x ++ (lineFeed ∷ [])) r

@@ -74,7 +74,7 @@ module _ (n : Counts) (homes : List ℕ) where
     pub says : (h : List Call) (line : List ℕ) (e : Event) (numbers : List ℕ) (q : Call) → reading line ≡ good e numbers → requestOf e numbers ≡ call q
         → answerTo (bookOf h) line ≡ printed (step (toModel n) (after (ofModel (toModel n) homes) h) q .answer) ++ (lineFeed ∷ [])
     pub leaves : (h : List Call) (line : List ℕ) (e : Event) (numbers : List ℕ) (q : Call) → reading line ≡ good e numbers → requestOf e numbers ≡ call q
-        → events.bookAfter (bookOf h) line ≡ bookOf (q ∷ h)
+        → events.bookAfterLine (bookOf h) line ≡ bookOf (q ∷ h)
 
   -- every date that is stored exists: after every history a bearing is unwritten at a depot, or its value has a date and the calendar answers it
   pub record DatesExist : Type 0 where

@@ -144,6 +144,6 @@ unfolding readingDone readingBook journal
 reading-journals l s bad p = journals-none l
 reading-journals l s (good e ns) p = event-journals l e ns (sized-words ns (read-says s e ns p .in-range))
 
-pub line-journals : (l s : List ℕ) → Journals l (doneBy l s) (recordTo l s) (answering.bookAfter l s)
-unfolding recordTo doneBy answering.bookAfter
+pub line-journals : (l s : List ℕ) → Journals l (doneBy l s) (recordTo l s) (answering.bookAfterLine l s)
+unfolding recordTo doneBy answering.bookAfterLine
 line-journals l s = reading-journals l s (reading s) refl

@@ -42,8 +42,8 @@ unfoldable pub answerTo : List ℕ → List ℕ → List ℕ
 answerTo l s = readingSays l (reading s) ++ (lineFeed ∷ [])
 
 -- the book after the line s
-unfoldable pub bookAfter : List ℕ → List ℕ → List ℕ
-bookAfter l s = readingBook l (reading s)
+unfoldable pub bookAfterLine : List ℕ → List ℕ → List ℕ
+bookAfterLine l s = readingBook l (reading s)
 
 -- ---- the record
 

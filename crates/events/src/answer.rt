@@ -14,7 +14,7 @@ ghost use Rattle.journal.specs.Journal.{journal};
 ghost use Rattle.line.specs.Printing.{Wrote};
 ghost use Rattle.line.specs.Reading.{reading};
 ghost use Rattle.reply.specs.Printed.{answerRoom};
-ghost use Rattle.events.specs.Answering.{eventSays, eventBook, eventDone, readingSays, readingBook, readingDone, answerTo, bookAfter, recordTo, recordRoom};
+ghost use Rattle.events.specs.Answering.{eventSays, eventBook, eventDone, readingSays, readingBook, readingDone, answerTo, bookAfterLine, recordTo, recordRoom};
 
 pub const LINE_FEED: u8 = b'\n';
 
@@ -83,7 +83,7 @@ pub fn keep_line(
     at: Places,
 ) -> Places
     requires { ⌜ (at .out + answerRoom ≤ length (now out)) × (at .log + recordRoom ≤ length (now log)) ⌝ }
-    ensures { λ r. ⌜ now (book .exit) ≡ bookAfter (now (book .entry)) (now (line .entry)) ⌝ }
+    ensures { λ r. ⌜ now (book .exit) ≡ bookAfterLine (now (book .entry)) (now (line .entry)) ⌝ }
     ensures { λ r. ⌜ Wrote (now (out .entry)) (at .out) (answerTo (now (book .entry)) (now (line .entry))) (now (out .exit)) (r .out) ⌝ }
     ensures { λ r. ⌜ Wrote (now (log .entry)) (at .log) (recordTo (now (book .entry)) (now (line .entry))) (now (log .exit)) (r .log) ⌝ }
 {
@@ -99,7 +99,7 @@ pub fn keep_line(
 // A line is done, and its answer with a line feed stands in `out` from `at` on. Its record is not kept.
 pub fn answer_line(book: &mut [u32], line: &[u8], out: &mut [u8], at: usize) -> usize
     requires { ⌜ at + answerRoom ≤ length (now out) ⌝ }
-    ensures { λ r. ⌜ now (book .exit) ≡ bookAfter (now (book .entry)) (now (line .entry)) ⌝ }
+    ensures { λ r. ⌜ now (book .exit) ≡ bookAfterLine (now (book .entry)) (now (line .entry)) ⌝ }
     ensures { λ r. ⌜ Wrote (now (out .entry)) at (answerTo (now (book .entry)) (now (line .entry))) (now (out .exit)) r ⌝ }
 {
     let mut log = [0u8; RECORD_ROOM];

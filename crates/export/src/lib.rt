@@ -161,7 +161,7 @@ pub extern "C" fn depot_greater(a: &[u32], b: &[u32], depots: u32) -> u32
 #[no_mangle]
 pub extern "C" fn depot_line(book: &mut [u32], line: &[u8], out: &mut [u8]) -> usize
     ensures { λ r. ⌜ r ≡ pick (leb answerRoom (length (now (out .entry)))) (length (answerTo (now (book .entry)) (now (line .entry)))) 0 ⌝ }
-    ensures { λ r. ⌜ now (book .exit) ≡ pick (leb answerRoom (length (now (out .entry)))) (events.bookAfter (now (book .entry)) (now (line .entry))) (now (book .entry)) ⌝ }
+    ensures { λ r. ⌜ now (book .exit) ≡ pick (leb answerRoom (length (now (out .entry)))) (events.bookAfterLine (now (book .entry)) (now (line .entry))) (now (book .entry)) ⌝ }
     ensures { λ r. ⌜ now (out .exit)
         ≡ pick (leb answerRoom (length (now (out .entry)))) (sets (now (out .entry)) 0 (answerTo (now (book .entry)) (now (line .entry)))) (now (out .entry)) ⌝ }
 {

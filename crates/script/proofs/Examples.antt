@@ -8,13 +8,13 @@ use lib.ListN.{length, getD}
 use Rattle.loops.specs.Loops.{pick}
 use Rattle.line.specs.Reading.{reading, headed, named, eventOf}
 use Rattle.line.specs.Number.{decimal, spelled}
-use Rattle.events.specs.Answering.{answerTo, bookAfter, readingSays, readingBook}
+use Rattle.events.specs.Answering.{answerTo, bookAfterLine, readingSays, readingBook}
 use Rattle.script.specs.Script.{onto, fedLines, lineSize, firstLine, unfed, Runs, bookRun}
 
 module _ (l : List ℕ) where
   -- X, 13, X, 13: it runs, and leaves the book alone
   pub bad-lines-run : Runs l (fedLines (88 ∷ 10 ∷ 49 ∷ 51 ∷ 10 ∷ 88 ∷ 10 ∷ 49 ∷ 51 ∷ 10 ∷ []))
-  unfolding Runs fedLines onto pick lineSize unfed answerTo bookAfter readingSays readingBook reading headed named eventOf decimal spelled
+  unfolding Runs fedLines onto pick lineSize unfed answerTo bookAfterLine readingSays readingBook reading headed named eventOf decimal spelled
   bad-lines-run = (refl, (refl, tt))
 
   -- X, 0, X, 13: the first answer differs, so it does not run

@@ -9,7 +9,7 @@ use mathlib.Core.List.{List, [], _∷_, _++_}
 use mathlib.Core.Bool.{Bool, true, false}
 use lib.ListN.{length, take, drop, length-append, length-drop, drop-of-length-le}
 use Rattle.loops.proofs.BoolLaws.{both-ways}
-use Rattle.events.specs.Answering.{lineFeed, answerTo, bookAfter, readingSays}
+use Rattle.events.specs.Answering.{lineFeed, answerTo, bookAfterLine, readingSays}
 use Rattle.line.specs.Reading.{reading}
 use Rattle.script.specs.Script.{fedLines, lineSize, firstLine, unfed, Runs, bookRun, bookTimes, RunsTimes, Exactly}
 use Rattle.script.proofs.LineLaws.{afterLine, lines-more, unfed-first, line-part, fed-part, after-part, after-within}
@@ -27,43 +27,43 @@ some-answer l s = let e : length (answerTo l s) ≡ length (readingSays l (readi
 
 -- after the line s comes the text u
 module _ (l s : List ℕ) where
-  runs-on : (u : List ℕ) → firstLine u ≡ answerTo l (unfed s) → Runs (bookAfter l (unfed s)) (fedLines (afterLine u)) → Runs l (s ∷ fedLines u)
+  runs-on : (u : List ℕ) → firstLine u ≡ answerTo l (unfed s) → Runs (bookAfterLine l (unfed s)) (fedLines (afterLine u)) → Runs l (s ∷ fedLines u)
   unfolding Runs firstLine
   runs-on [] e h = absurd (let k = some-answer l (unfed s) in let n = ap (λ (a : List ℕ). length a) e in omega arith)
   runs-on (c ∷ u) e h = rw (lines-more (c ∷ u) (omega arith)) (e, h)
 
-  runs-back : (u : List ℕ) → Runs l (s ∷ fedLines u) → (firstLine u ≡ answerTo l (unfed s)) × Runs (bookAfter l (unfed s)) (fedLines (afterLine u))
+  runs-back : (u : List ℕ) → Runs l (s ∷ fedLines u) → (firstLine u ≡ answerTo l (unfed s)) × Runs (bookAfterLine l (unfed s)) (fedLines (afterLine u))
   unfolding Runs
   runs-back [] h = absurd (subst (λ (x : List (List ℕ)). Runs l (s ∷ x)) lines-none h)
   runs-back (c ∷ u) h = subst (λ (x : List (List ℕ)). Runs l (s ∷ x)) (lines-more (c ∷ u) (omega arith)) h
 
-  book-on : (u : List ℕ) → bookRun l (s ∷ fedLines u) ≡ bookRun (bookAfter l (unfed s)) (fedLines (afterLine u))
+  book-on : (u : List ℕ) → bookRun l (s ∷ fedLines u) ≡ bookRun (bookAfterLine l (unfed s)) (fedLines (afterLine u))
   unfolding bookRun
   book-on [] = rw lines-none refl
   book-on (c ∷ u) = rw (lines-more (c ∷ u) (omega arith)) refl
 
 -- the text t begins with the line, and after its answer it goes on
 module _ (l t : List ℕ) (h : 0 < length t) where
-  turn-book : bookRun l (fedLines t) ≡ bookRun (bookAfter l (unfed t)) (fedLines (afterLine (afterLine t)))
+  turn-book : bookRun l (fedLines t) ≡ bookRun (bookAfterLine l (unfed t)) (fedLines (afterLine (afterLine t)))
   turn-book =
       ap (λ (x : List (List ℕ)). bookRun l x) (lines-more t h)
       ∙ book-on l (firstLine t) (afterLine t)
-      ∙ ap (λ (x : List ℕ). bookRun (bookAfter l x) (fedLines (afterLine (afterLine t)))) (unfed-first t)
+      ∙ ap (λ (x : List ℕ). bookRun (bookAfterLine l x) (fedLines (afterLine (afterLine t)))) (unfed-first t)
 
-  turn-runs : firstLine (afterLine t) ≡ answerTo l (unfed t) → Runs (bookAfter l (unfed t)) (fedLines (afterLine (afterLine t))) → Runs l (fedLines t)
+  turn-runs : firstLine (afterLine t) ≡ answerTo l (unfed t) → Runs (bookAfterLine l (unfed t)) (fedLines (afterLine (afterLine t))) → Runs l (fedLines t)
   turn-runs e r =
       subst (λ (x : List (List ℕ)). Runs l x) (sym (lines-more t h))
       (subst
-      (λ (x : List ℕ). firstLine (afterLine t) ≡ answerTo l x → Runs (bookAfter l x) (fedLines (afterLine (afterLine t))) → Runs l (firstLine t ∷ fedLines (afterLine t)))
+      (λ (x : List ℕ). firstLine (afterLine t) ≡ answerTo l x → Runs (bookAfterLine l x) (fedLines (afterLine (afterLine t))) → Runs l (firstLine t ∷ fedLines (afterLine t)))
       (unfed-first t)
       (runs-on l (firstLine t) (afterLine t))
       e
       r)
 
-  turn-back : Runs l (fedLines t) → (firstLine (afterLine t) ≡ answerTo l (unfed t)) × Runs (bookAfter l (unfed t)) (fedLines (afterLine (afterLine t)))
+  turn-back : Runs l (fedLines t) → (firstLine (afterLine t) ≡ answerTo l (unfed t)) × Runs (bookAfterLine l (unfed t)) (fedLines (afterLine (afterLine t)))
   turn-back r =
       subst
-      (λ (x : List ℕ). (firstLine (afterLine t) ≡ answerTo l x) × Runs (bookAfter l x) (fedLines (afterLine (afterLine t))))
+      (λ (x : List ℕ). (firstLine (afterLine t) ≡ answerTo l x) × Runs (bookAfterLine l x) (fedLines (afterLine (afterLine t))))
       (unfed-first t)
       (runs-back l (firstLine t) (afterLine t) (subst (λ (x : List (List ℕ)). Runs l x) (lines-more t h) r))
 
@@ -90,13 +90,13 @@ far-start l s = record { within = omega arith; book = refl; rest = λ g r. r; wh
 -- a line from `at` to `feed`, its answer from `e` to `stop`
 pub far-more :
     {l₀ s l l′ : List ℕ} {good good′ : Bool} {at feed e stop : ℕ} → Far l₀ s good l at → at < length s → feed ≡ at + lineSize (drop at s) →
-    e ≡ at + length (firstLine (drop at s)) → stop ≡ e + length (firstLine (drop e s)) → l′ ≡ bookAfter l (take (feed - at) (drop at s)) →
+    e ≡ at + length (firstLine (drop at s)) → stop ≡ e + length (firstLine (drop e s)) → l′ ≡ bookAfterLine l (take (feed - at) (drop at s)) →
     Exactly good′ ((take (stop - e) (drop e s) ≡ answerTo l (take (feed - at) (drop at s))) × (good ≡ true)) → Far l₀ s good′ l′ stop
 far-more {l₀} {s} {l} {l′} {good} {good′} {at} {feed} {e} {stop} far h pf pe ps book x =
     let t = drop at s in
     let line = line-part s at pf in
     let answer = fed-part s e ps in
-    let pl : l′ ≡ bookAfter l (unfed t) = book ∙ ap (λ (y : List ℕ). bookAfter l y) line in
+    let pl : l′ ≡ bookAfterLine l (unfed t) = book ∙ ap (λ (y : List ℕ). bookAfterLine l y) line in
     let n : 0 < length t = let k = length-drop at s in omega arith in
     let u : drop e s ≡ afterLine t = after-part s at pe in
     let v : drop stop s ≡ afterLine (afterLine t) = after-part s e ps ∙ ap (λ (y : List ℕ). afterLine y) u in
@@ -109,13 +109,13 @@ far-more {l₀} {s} {l} {l′} {good} {good′} {at} {feed} {e} {stop} far h pf 
           far .rest (w .1)
           (turn-runs l t n
           (sym (ap (λ (y : List ℕ). firstLine y) u) ∙ sym answer ∙ w .0 ∙ ap (λ (y : List ℕ). answerTo l y) line)
-          (subst (λ (y : List ℕ). Runs (bookAfter l (unfed t)) (fedLines y)) v (subst (λ (m : List ℕ). Runs m (fedLines (drop stop s))) pl r)));
+          (subst (λ (y : List ℕ). Runs (bookAfterLine l (unfed t)) (fedLines y)) v (subst (λ (m : List ℕ). Runs m (fedLines (drop stop s))) pl r)));
       whole =
           λ r.
           let b = turn-back l t n (far .whole r .1) in (
             x .1 (answer ∙ ap (λ (y : List ℕ). firstLine y) u ∙ b .0 ∙ sym (ap (λ (y : List ℕ). answerTo l y) line), far .whole r .0),
             subst (λ (m : List ℕ). Runs m (fedLines (drop stop s))) (sym pl)
-                (subst (λ (y : List ℕ). Runs (bookAfter l (unfed t)) (fedLines y)) (sym v) (b .1)),
+                (subst (λ (y : List ℕ). Runs (bookAfterLine l (unfed t)) (fedLines y)) (sym v) (b .1)),
           );
     }
 

@@ -7,7 +7,7 @@ use mathlib.Core.Bool.{Bool, true}
 use lib.Dec.{eqb}
 use lib.ListN.{take}
 use Rattle.loops.specs.Loops.{pick}
-use Rattle.events.specs.Answering.{lineFeed, answerTo, bookAfter}
+use Rattle.events.specs.Answering.{lineFeed, answerTo, bookAfterLine}
 
 -- ---- the lines of a text
 
@@ -40,13 +40,13 @@ unfed t = take (lineSize t) t
 unfoldable pub Runs : List ℕ → List (List ℕ) → Type 0
 Runs l [] = Unit {0}
 Runs l (s ∷ []) = ⊥
-Runs l (s ∷ a ∷ ss) = (a ≡ answerTo l (unfed s)) × Runs (bookAfter l (unfed s)) ss
+Runs l (s ∷ a ∷ ss) = (a ≡ answerTo l (unfed s)) × Runs (bookAfterLine l (unfed s)) ss
 
 -- the book after them, whatever their answers are
 unfoldable pub bookRun : List ℕ → List (List ℕ) → List ℕ
 bookRun l [] = l
-bookRun l (s ∷ []) = bookAfter l (unfed s)
-bookRun l (s ∷ a ∷ ss) = bookRun (bookAfter l (unfed s)) ss
+bookRun l (s ∷ []) = bookAfterLine l (unfed s)
+bookRun l (s ∷ a ∷ ss) = bookRun (bookAfterLine l (unfed s)) ss
 
 -- the book after n runs of the same lines, and that each of them runs
 unfoldable pub bookTimes : ℕ → List ℕ → List (List ℕ) → List ℕ

@@ -5,7 +5,7 @@ use events::answer::answer_line;
 ghost use mathlib.Core.Path.{_≡_};
 ghost use Prim.Native.Nat.{_+_, _<_, _≤_};
 ghost use lib.ListN.{length, getD, drop};
-ghost use Rattle.events.specs.Answering.{answerTo, bookAfter};
+ghost use Rattle.events.specs.Answering.{answerTo, bookAfterLine};
 ghost use Rattle.reply.specs.Printed.{answerRoom};
 ghost use Rattle.script.specs.Script.{fedLines, lineSize, firstLine, Runs, bookRun, RunsTimes, bookTimes, Exactly};
 
@@ -37,7 +37,7 @@ fn line_after(s: &[u8], at: usize) -> usize
 // The line is done; whether its answer is the expected one. The answer stands in `out`.
 fn is_answered(book: &mut [u32], out: &mut [u8], line: &[u8], expected: &[u8]) -> bool
     requires { ⌜ answerRoom ≤ length (now out) ⌝ }
-    ensures { λ r. ⌜ now (book .exit) ≡ bookAfter (now (book .entry)) (now (line .entry)) ⌝ }
+    ensures { λ r. ⌜ now (book .exit) ≡ bookAfterLine (now (book .entry)) (now (line .entry)) ⌝ }
     ensures { λ r. ⌜ Exactly r (now (expected .entry) ≡ answerTo (now (book .entry)) (now (line .entry))) ⌝ }
 {
     let n = answer_line(book, line, out, 0);

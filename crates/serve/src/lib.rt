@@ -62,7 +62,10 @@ fn keep_records(journal: i32, records: &[u8]) -> bool {
     if libc::ftruncate(journal, end) != 0 {
         os::fail(b"desk: nor can it be cut back to the records before");
     }
-    io::write_all(STDERR_FILENO, b"desk: so what came since the last answer is not done; all that was answered is kept\n");
+    io::write_all(
+        STDERR_FILENO,
+        b"desk: so what came since the last answer is not done; all that was answered is kept\n",
+    );
     false
 }
 

@@ -17,7 +17,7 @@ use Rattle.upkeep.specs.Requests.{Request, last}
 use Rattle.journal.specs.Record.{recordBytes}
 use Rattle.journal.specs.Journal.{journal, Done, wholeIn, restIn, start, within, replay}
 use Rattle.journal.proofs.Theorems.{recovers, recovers-cut}
-use Rattle.events.specs.Answering.{answerTo, doneBy, recordTo, bookAfter}
+use Rattle.events.specs.Answering.{answerTo, doneBy, recordTo, bookAfterLine}
 use Rattle.events.proofs.KeepLaws.{Journals, journals-none, journals-then, journal-append, last-append, line-journals}
 use Rattle.stream.specs.Stream.{linesOf, doneIn, lineAt, bookAt, givesAt, bookThrough, givesThrough, bookLast, givesLast, linePiece, bookPiece, givesPiece, linePieces}
 use Rattle.stream.specs.Stream.{bookPieces, givesPieces, donePiece, donePieces, logPiece, logPieces, joined, Pieces}

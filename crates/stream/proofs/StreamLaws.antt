@@ -15,7 +15,7 @@ use Rattle.loops.proofs.BoolLaws.{eq-or-ne, pick-true, pick-false}
 use Rattle.line.specs.Printing.{Wrote}
 use Rattle.line.proofs.PrintLaws.{wrote-nothing, wrote-same, wrote-then, wrote-length}
 use Rattle.reply.specs.Printed.{answerRoom}
-use Rattle.events.specs.Answering.{lineFeed, Giving, answerTo, recordTo, recordRoom, bookAfter}
+use Rattle.events.specs.Answering.{lineFeed, Giving, answerTo, recordTo, recordRoom, bookAfterLine}
 use Rattle.events.proofs.SayLaws.{answer-length}
 use Rattle.events.proofs.KeepLaws.{record-length}
 use Rattle.stream.specs.Stream.{lineAt, bookAt, givesAt, lineThrough, bookThrough, givesThrough, bookLast, givesLast, linePiece}
@@ -37,7 +37,7 @@ module _ (p : List ℕ) (b : ℕ) where
   line-full h k = pick-false _ _ (ne-eqb b 10 h) ∙ pick-false _ _ (le-ltb (length p) 121 k)
 
 module _ (l p : List ℕ) (b : ℕ) where
-  pub book-ends : b ≡ lineFeed → bookAt l p b ≡ bookAfter l p
+  pub book-ends : b ≡ lineFeed → bookAt l p b ≡ bookAfterLine l p
   unfolding bookAt
   book-ends h = pick-true _ _ (eq-eqb b 10 h)
 
@@ -264,7 +264,7 @@ module _ (l p : List ℕ) (h : length p ≡ 0) where
   last-gives-none g = pick-true _ _ (eq-eqb _ 0 h)
 
 module _ (l p : List ℕ) (h : length p ≡ 0 → ⊥) where
-  pub last-some : bookLast l p ≡ bookAfter l p
+  pub last-some : bookLast l p ≡ bookAfterLine l p
   unfolding bookLast
   last-some = pick-false _ _ (ne-eqb _ 0 h)
 

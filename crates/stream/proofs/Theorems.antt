@@ -15,7 +15,7 @@ use Rattle.loops.proofs.BoolLaws.{le-or-lt, eq-or-ne, pick-true, pick-false}
 use Rattle.line.specs.Reading.{Reading, reading}
 use Rattle.line.proofs.LineLaws.{reading-cut}
 use Rattle.journal.specs.Journal.{replay}
-use Rattle.events.specs.Answering.{lineFeed, Giving, readingSays, readingDone, readingBook, answerTo, doneBy, bookAfter}
+use Rattle.events.specs.Answering.{lineFeed, Giving, readingSays, readingDone, readingBook, answerTo, doneBy, bookAfterLine}
 use Rattle.stream.specs.Stream.{linesFrom, linesOf, givenTo, doneIn, bookAfterAll, zeroBook, output, lineAt, bookAt, givesAt, lineThrough, bookThrough, givesThrough}
 use Rattle.stream.specs.Stream.{givesLast, bookLast, linePiece, bookPiece, givesPiece, linePieces, bookPieces, givesPieces, saysPieces, donePieces, joined, Pieces}
 use Rattle.stream.specs.Stream.{lineIn, Holder, Began, Served}
@@ -49,8 +49,8 @@ done-read = record { same = λ l s t e. ap (readingDone l) e }
 cut-gives : {A : Type 0} {g : Giving A} → Read g → (l p : List ℕ) → g l (cutTo p) ≡ g l p
 cut-gives r l p = r .same l (cutTo p) p (cut-reading p)
 
-cut-book : (l p : List ℕ) → bookAfter l (cutTo p) ≡ bookAfter l p
-unfolding bookAfter
+cut-book : (l p : List ℕ) → bookAfterLine l (cutTo p) ≡ bookAfterLine l p
+unfolding bookAfterLine
 cut-book l p = ap (readingBook l) (cut-reading p)
 
 -- one byte more is kept of a line of one byte more
@@ -109,7 +109,7 @@ gives-lines {A} {g} r l p (b ∷ t) =
     (λ (h : b ≡ 10).
     ap (λ (x : List A). x ++ givesAll g (bookAt l (cutTo p) b) (lineAt (cutTo p) b) t) (gives-ends g l (cutTo p) b h ∙ cut-gives r l p)
     ∙ ap (λ (x : List A). g l p ++ x)
-    (ap₂ (λ (m q : List ℕ). givesAll g m q t) (book-ends l (cutTo p) b h ∙ cut-book l p) (line-ends (cutTo p) b h) ∙ gives-lines r (bookAfter l p) [] t)
+    (ap₂ (λ (m q : List ℕ). givesAll g m q t) (book-ends l (cutTo p) b h ∙ cut-book l p) (line-ends (cutTo p) b h) ∙ gives-lines r (bookAfterLine l p) [] t)
     ∙ sym (ap (givenTo g l) (pick-true _ _ (eq-eqb b 10 h))))
     (λ (h : b ≡ 10 → ⊥).
     ap (λ (x : List A). x ++ givesAll g (bookAt l (cutTo p) b) (lineAt (cutTo p) b) t) (gives-nothing g l (cutTo p) b h)
@@ -132,7 +132,7 @@ book-lines l p (b ∷ t) =
     ∙ ⊎-elim
     (λ (h : b ≡ 10).
     ap₂ (λ (m q : List ℕ). bookAll m q t) (book-ends l (cutTo p) b h ∙ cut-book l p) (line-ends (cutTo p) b h)
-    ∙ book-lines (bookAfter l p) [] t
+    ∙ book-lines (bookAfterLine l p) [] t
     ∙ sym (ap (bookAfterAll l) (pick-true _ _ (eq-eqb b 10 h))))
     (λ (h : b ≡ 10 → ⊥).
     ap₂ (λ (m q : List ℕ). bookAll m q t) (book-stays l (cutTo p) b h) (cut-grows p b h)

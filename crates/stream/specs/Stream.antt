@@ -12,7 +12,7 @@ use Rattle.book.specs.Layout.{bookWords}
 use Rattle.fit.specs.Fit.{fit}
 use Rattle.upkeep.specs.Requests.{Request}
 use Rattle.journal.specs.Journal.{start, replay}
-use Rattle.events.specs.Answering.{lineFeed, Giving, answerTo, doneBy, recordTo, bookAfter}
+use Rattle.events.specs.Answering.{lineFeed, Giving, answerTo, doneBy, recordTo, bookAfterLine}
 
 -- ---- what is promised of a whole input
 
@@ -27,7 +27,7 @@ linesOf t = linesFrom [] t
 -- what each line gives, to the book that the line before left
 unfoldable pub givenTo : {A : Type 0} → Giving A → List ℕ → List (List ℕ) → List A
 givenTo g l [] = []
-givenTo g l (s ∷ ss) = g l s ++ givenTo g (bookAfter l s) ss
+givenTo g l (s ∷ ss) = g l s ++ givenTo g (bookAfterLine l s) ss
 
 -- one answer for each line
 abbrev pub answersTo : List ℕ → List (List ℕ) → List ℕ
@@ -39,7 +39,7 @@ doneIn l ss = givenTo doneBy l ss
 
 unfoldable pub bookAfterAll : List ℕ → List (List ℕ) → List ℕ
 bookAfterAll l [] = l
-bookAfterAll l (s ∷ ss) = bookAfterAll (bookAfter l s) ss
+bookAfterAll l (s ∷ ss) = bookAfterAll (bookAfterLine l s) ss
 
 -- the book starts as zeros
 abbrev pub zeroBook : List ℕ
@@ -61,7 +61,7 @@ lineAt p b = pick (eqb b lineFeed) [] (pick (ltb (length p) keptBytes) (p ++ (b 
 
 -- the book after it
 unfoldable pub bookAt : List ℕ → List ℕ → ℕ → List ℕ
-bookAt l p b = pick (eqb b lineFeed) (bookAfter l p) l
+bookAt l p b = pick (eqb b lineFeed) (bookAfterLine l p) l
 
 -- and what it gives
 unfoldable pub givesAt : {A : Type 0} → Giving A → List ℕ → List ℕ → ℕ → List A
@@ -85,7 +85,7 @@ unfoldable pub givesLast : {A : Type 0} → Giving A → List ℕ → List ℕ �
 givesLast g l p = pick (eqb (length p) 0) [] (g l p)
 
 unfoldable pub bookLast : List ℕ → List ℕ → List ℕ
-bookLast l p = pick (eqb (length p) 0) l (bookAfter l p)
+bookLast l p = pick (eqb (length p) 0) l (bookAfterLine l p)
 
 -- ---- piece by piece
 

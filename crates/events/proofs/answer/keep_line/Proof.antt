@@ -4,7 +4,7 @@ use native.Mathlib.Omega.{arith}
 use denote.Ref.{now}
 use Rattle.line.specs.Reading.{reading}
 use Rattle.line.proofs.PrintLaws.{wrote-byte, wrote-then, wrote-length}
-use Rattle.events.specs.Answering.{bookAfter, answerTo, recordTo, doneBy}
+use Rattle.events.specs.Answering.{bookAfterLine, answerTo, recordTo, doneBy}
 use Rattle.events.proofs.SayLaws.{reading-length}
 use borrow.Author.Needs.{needs}
 use Rattle.events.proofs.answer.keep_line.Statement.{statement}
@@ -22,7 +22,7 @@ add-t15 : tie.Need-add-t15
 add-t15 c = let h = slice-write-out c in search needs
 
 returns : tie.Need-returns
-unfolding bookAfter answerTo recordTo doneBy
+unfolding bookAfterLine answerTo recordTo doneBy
 returns c =
     let said = c .before .before .before .before .before .before .say-line .ensures in
     (said .0, (wrote-then (said .1 .0) (wrote-byte _ _ 10), said .1 .1))
