@@ -41,7 +41,7 @@ extern "C" {
 #define DEPOT_NEXT_WORDS 4     /* room that depot_next_date's answer takes in `out` */
 #define DEPOT_LAST_DAY 146096  /* the day number of 31 December 2399, the last that can be written */
 #define DEPOT_LINE_BYTES 120   /* the longest line that is not a BAD LINE, its line feed not counted */
-#define DEPOT_ANSWER_BYTES 80  /* room that every answer line has, its line feed counted */
+#define DEPOT_ANSWER_BYTES 618 /* room that every answer line has, its line feed counted: the longest is a list of eight */
 #define DEPOT_NO_ROOM 100      /* the answer where `out` has fewer elements than the call's answer takes; nothing is done */
 
 /* The answers. Each call checks in the order that stands with it, and the first that holds is the answer. */

@@ -1,4 +1,7 @@
 // The worked cases (a) to (i) of the paper's "Entries on both sides", and those of later requests, each run and compared. A script has lines of the desk, each with its answer after it.
+pub mod lists;
+
+use crate::lists::case_p;
 use book::layout::BOOK_WORDS;
 use book::layout::clock_at;
 use book::layout::crew_at;
@@ -431,5 +434,6 @@ fn main() {
     from_setup(&mut book, &mut out);
     from_requests(&mut book, &mut out);
     from_calls(&mut book, &mut out);
+    tell(b'p', case_p(&mut book, &mut out));
     tell(b'?', wrong_answers(&mut book, &mut out));
 }

@@ -14,6 +14,10 @@ use Rattle.export.proofs.depot_write.Kinds as write-kinds
 use Rattle.export.proofs.depot_write.Reads as depot_write
 use Rattle.export.proofs.depot_grams.Kinds as grams-kinds
 use Rattle.export.proofs.depot_grams.Reads as depot_grams
+use Rattle.export.proofs.pages.depot_list.Kinds as list-kinds
+use Rattle.export.proofs.pages.depot_list.Reads as depot_list
+use Rattle.export.proofs.moves.depot_move.Kinds as move-kinds
+use Rattle.export.proofs.moves.depot_move.Reads as depot_move
 use Rattle.export.proofs.depot_tick.Kinds as tick-kinds
 use Rattle.export.proofs.depot_tick.Reads as depot_tick
 use Rattle.export.proofs.depot_take.Kinds as take-kinds
@@ -68,6 +72,12 @@ take-unique κs args one other end end′ p q = p .0 ∙ sym (q .0)
 
 pub refresh-unique : Settled 1 refresh-kinds.ps refresh-kinds.r depot_refresh.Learnt
 refresh-unique κs args one other end end′ p q = p .0 ∙ sym (q .0)
+
+pub move-unique : Settled 1 move-kinds.ps move-kinds.r depot_move.Learnt
+move-unique κs args one other end end′ p q = p .0 ∙ sym (q .0)
+
+pub list-unique : Settled 3 list-kinds.ps list-kinds.r depot_list.Learnt
+list-unique κs args one other end end′ p q = p .0 ∙ sym (q .0)
 
 pub who-has-unique : Settled 2 who-has-kinds.ps who-has-kinds.r depot_who_has.Learnt
 who-has-unique κs args one other end end′ p q = p .0 ∙ sym (q .0)

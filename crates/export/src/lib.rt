@@ -7,7 +7,6 @@ pub mod moves;
 pub mod pages;
 
 use book::parts::wide;
-use calls::reply::answered;
 use events::answer::answer_line;
 use holders::tell_who;
 use order::record::MOST_DEPOTS;
@@ -53,8 +52,7 @@ pub extern "C" fn depot_setup(
     ensures { λ r. ⌜ r ≡ numberAt (now (book .entry)) (setup (record { depots = depots; shelves = shelves; bearings = bearings; crews = crews }) (now (homes .entry))) ⌝ }
     ensures { λ r. ⌜ now (book .exit) ≡ bookAfter (now (book .entry)) (setup (record { depots = depots; shelves = shelves; bearings = bearings; crews = crews }) (now (homes .entry))) ⌝ }
 {
-    let reply = answered(setup(book, depots, shelves, bearings, crews, homes));
-    number_in(reply)
+    number_in(setup(book, depots, shelves, bearings, crews, homes))
 }
 
 #[no_mangle]
@@ -62,8 +60,7 @@ pub extern "C" fn depot_tick(book: &mut [u32], depot: u32, shelf: u32) -> u32
     ensures { λ r. ⌜ r ≡ numberAt (now (book .entry)) (call (tick depot shelf)) ⌝ }
     ensures { λ r. ⌜ now (book .exit) ≡ bookAfter (now (book .entry)) (call (tick depot shelf)) ⌝ }
 {
-    let reply = answered(tick(book, depot, shelf));
-    number_in(reply)
+    number_in(tick(book, depot, shelf))
 }
 
 #[no_mangle]
@@ -71,8 +68,7 @@ pub extern "C" fn depot_take(book: &mut [u32], depot: u32, shelf: u32, from: u32
     ensures { λ r. ⌜ r ≡ numberAt (now (book .entry)) (call (take depot shelf from)) ⌝ }
     ensures { λ r. ⌜ now (book .exit) ≡ bookAfter (now (book .entry)) (call (take depot shelf from)) ⌝ }
 {
-    let reply = answered(take(book, depot, shelf, from));
-    number_in(reply)
+    number_in(take(book, depot, shelf, from))
 }
 
 #[no_mangle]
@@ -80,8 +76,7 @@ pub extern "C" fn depot_refresh(book: &mut [u32], depot: u32, shelf: u32) -> u32
     ensures { λ r. ⌜ r ≡ numberAt (now (book .entry)) (call (refresh depot shelf)) ⌝ }
     ensures { λ r. ⌜ now (book .exit) ≡ bookAfter (now (book .entry)) (call (refresh depot shelf)) ⌝ }
 {
-    let reply = answered(refresh(book, depot, shelf));
-    number_in(reply)
+    number_in(refresh(book, depot, shelf))
 }
 
 #[no_mangle]

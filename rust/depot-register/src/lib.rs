@@ -64,7 +64,7 @@ pub const WORDS: usize = 16_384;
 /// The words of a version record.
 pub const RECORD: usize = 9;
 /// The room that every answer line has, its line feed counted.
-pub const ANSWER_BYTES: usize = 80;
+pub const ANSWER_BYTES: usize = 618;
 
 /// The four counts of a register.
 #[derive(Clone, Copy, Debug, PartialEq, Eq, Hash)]

@@ -2,7 +2,7 @@
 
 use std::fmt;
 
-use crate::register::Register;
+use crate::register::{Register, ANSWER_BYTES};
 use straight::WORDS;
 
 /// The words of the buffer that the book is a part of, so that a book can also be too long.
@@ -10,7 +10,7 @@ pub const BUFFER: usize = WORDS + 16;
 /// The most that a read or a write is lent for its answer.
 pub const MOST_OUT: usize = 10;
 /// The most that a line is lent for its answer.
-pub const MOST_BYTES: usize = 88;
+pub const MOST_BYTES: usize = ANSWER_BYTES + 8;
 
 #[derive(Clone, Debug, PartialEq)]
 pub enum Event {

@@ -7,6 +7,7 @@ use crate::books::{counts, lay, setup, wrong_setup};
 use crate::event::{Event, Step, BUFFER, MOST_BYTES, MOST_OUT};
 use crate::lines;
 use crate::random::Random;
+use crate::register::ANSWER_BYTES;
 use crate::values;
 use straight::calendar::LAST_DAY;
 use straight::layout::*;
@@ -102,7 +103,7 @@ impl Generator {
         }
         if step.room > 0 && self.random.below(32) == 0 {
             step.room = match step.event {
-                Event::Line(_) => self.random.choose(&[0, 1, 79, 80, 81, MOST_BYTES]),
+                Event::Line(_) => self.random.choose(&[0, 1, ANSWER_BYTES - 1, ANSWER_BYTES, ANSWER_BYTES + 1, MOST_BYTES]),
                 _ => self.random.below(MOST_OUT + 1),
             };
         }
@@ -132,6 +133,7 @@ impl Generator {
             Mood::Ends => self.ends(book),
             Mood::Lines => match self.call(book) {
                 call @ Event::Move { .. } => call,
+                Event::Read { crew, .. } if self.random.percent(50) => self.list(book, crew),
                 call => Event::Line(lines::text(&call)),
             },
             _ => self.call(book),
@@ -182,6 +184,19 @@ impl Generator {
             4 => Event::Refresh { depot, shelf },
             _ => Event::Move { crew: self.random.below(n.crews) as u32, depot },
         }
+    }
+
+    /// A list, as a line; now and then of none or of too many, or of a bearing out of range.
+    fn list(&mut self, book: &[u32], crew: u32) -> Event {
+        let n = if counts_and_homes(book) { Counts::of(book) } else { Counts { depots: 2, shelves: 2, bearings: 4, crews: 2 } };
+        let count = self.random.choose(&[0, 1, 1, 2, 2, 2, 3, 3, 4, 5, 6, 7, 8, 8, 9, 9, 12]);
+        let mut bearings: Vec<u32> = (0..count).map(|_| self.bearing(n)).collect();
+        if count > 0 && self.random.percent(10) {
+            let at = self.random.below(count);
+            bearings[at] = self.random.choose(&[n.bearings as u32, 160, u32::MAX]);
+        }
+        let crew = if self.random.percent(5) { n.crews as u32 } else { crew };
+        Event::Line(lines::list(crew, &bearings))
     }
 
     /// Few bearings are used much, so that versions meet.

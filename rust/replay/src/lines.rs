@@ -17,6 +17,11 @@ pub fn text(call: &Event) -> Vec<u8> {
     numbers.iter().fold(letter.to_string(), |line, number| format!("{} {}", line, number)).into_bytes()
 }
 
+/// A list as a line of the desk.
+pub fn list(crew: u32, bearings: &[u32]) -> Vec<u8> {
+    bearings.iter().fold(format!("L {}", crew), |line, number| format!("{} {}", line, number)).into_bytes()
+}
+
 /// The line of a call, damaged in one of many ways. Now and then it is a good line still.
 pub fn damaged(random: &mut Random, call: &Event) -> Vec<u8> {
     let mut line = text(call);
@@ -47,8 +52,8 @@ pub fn damaged(random: &mut Random, call: &Event) -> Vec<u8> {
                 line.truncate(end);
             }
         }
-        11 => line[0] = random.choose(b"srwktfXL 0\n\r\0\xFF"),
-        12 => line.insert(1, random.choose(b"SRWKTF0\t\0")),
+        11 => line[0] = random.choose(b"srwktflXL 0\n\r\0\xFF"),
+        12 => line.insert(1, random.choose(b"SRWKTFL0\t\0")),
         13 => {
             let at = random.below(line.len());
             line[at] = random.bits() as u8;
@@ -63,12 +68,12 @@ pub fn damaged(random: &mut Random, call: &Event) -> Vec<u8> {
             line.remove(at);
         }
         16 => line = of_length(random),
-        17 => line = many_numbers(random),
+        17 => line = if random.percent(80) { many_numbers(random) } else { long_list(random) },
         18 => {
             let most = if random.below(200) == 0 { 40_000 } else { 300 };
             line = (0..random.below(most)).map(|_| random.bits() as u8).collect();
         }
-        _ => line = (0..random.below(40)).map(|_| random.choose(b"SRWKTF 0123456789")).collect(),
+        _ => line = (0..random.below(40)).map(|_| random.choose(b"SRWKTFL 0123456789")).collect(),
     }
     line
 }
@@ -105,4 +110,10 @@ fn many_numbers(random: &mut Random) -> Vec<u8> {
     let counts = [depots, random.between(1, 4), random.between(1, 160), count.max(4) - 4];
     let numbers = counts.into_iter().chain((0..20).map(|_| random.below(depots))).take(count);
     numbers.fold("S".to_string(), |line, number| format!("{} {}", line, number)).into_bytes()
+}
+
+/// A list line of right form with 0 to 59 bearings: that many are one too many for a line.
+fn long_list(random: &mut Random) -> Vec<u8> {
+    let count = random.choose(&[0, 1, 7, 8, 8, 9, 9, 10, 20, 21, 57, 58, 59]);
+    list(random.below(3) as u32, &vec![random.below(4) as u32; count])
 }

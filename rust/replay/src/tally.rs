@@ -3,6 +3,7 @@
 use std::fmt;
 
 use crate::event::{Event, Outcome, Step};
+use crate::register::ANSWER_BYTES;
 use straight::calendar::LAST_DAY;
 use straight::layout::*;
 use straight::Counts;
@@ -10,7 +11,7 @@ use straight::Counts;
 const CALLS: [&str; 8] = ["setup", "read", "write", "tick", "take", "refresh", "line", "move"];
 const NAMES: [&str; 17] = [
     "done", "BAD BOOK", "BAD DEPOT", "BAD SHELF", "BAD KEY", "BAD CREW", "SAME DEPOT", "EMPTY LINK", "WAIT", "LINK FULL",
-    "CLOCK AT END", "BAD COUNTS", "NOT HERE YET", "BAD LINE", "BAD CARD", "", "BAD DATE",
+    "CLOCK AT END", "BAD COUNTS", "NOT HERE YET", "BAD LINE", "BAD CARD", "BAD LIST", "BAD DATE",
 ];
 
 macro_rules! marks {
@@ -98,6 +99,11 @@ marks! {
     LineBig: "a line with 4294967296",
     LineFew: "an S line with 3 numbers",
     LineMany: "an S line with 21 numbers",
+    ListDone: "an L line of two bearings or more, done",
+    ListEight: "an L line of eight bearings, done",
+    ListNone: "an L line of no bearings, BAD LIST",
+    ListNine: "an L line of nine bearings, BAD LIST",
+    ListKey: "an L line, BAD KEY",
 }
 
 pub struct Tally {
@@ -148,7 +154,7 @@ impl Tally {
         let called = !matches!(step.event, Event::Lay(_) | Event::Put { .. } | Event::Greater { .. } | Event::Grams { .. });
         self.mark_if(called && step.words != WORDS, Mark::WrongLength);
         let least = match step.event {
-            Event::Line(_) => 80,
+            Event::Line(_) => ANSWER_BYTES,
             Event::Read { .. } => 8,
             Event::Write { .. } | Event::Grams { .. } => 2,
             _ => 0,
@@ -287,6 +293,9 @@ impl Tally {
         self.answers[row][number] += 1;
         self.mark_if(row == 6 && number == straight::Refusal::BadDate as usize, Mark::LineLate);
         self.mark_if(row == 6 && number == straight::Refusal::BadCard as usize, Mark::LineCard);
+        if let Event::Line(text) = &step.event {
+            self.list(text, number);
+        }
         if number == 13 {
             self.bad_lines += 1;
         } else {
@@ -396,6 +405,18 @@ impl Tally {
         if number == straight::Refusal::LinkFull as usize {
             self.mark_if(links().filter(|&link| full(link)).all(|link| book[taken(link)] > 0), Mark::FullByTaken);
             self.mark_if(links().next().is_some_and(|link| !full(link)), Mark::FullLater);
+        }
+    }
+
+    fn list(&mut self, text: &[u8], number: usize) {
+        let numbers = text.iter().filter(|&&byte| byte == b' ').count();
+        let refused = number == straight::Refusal::BadList as usize;
+        if text.starts_with(b"L ") {
+            self.mark_if(number == 0 && numbers > 2, Mark::ListDone);
+            self.mark_if(number == 0 && numbers == 9, Mark::ListEight);
+            self.mark_if(refused && numbers == 1, Mark::ListNone);
+            self.mark_if(refused && numbers == 10, Mark::ListNine);
+            self.mark_if(number == straight::Refusal::BadKey as usize, Mark::ListKey);
         }
     }
 

@@ -1,7 +1,10 @@
 //! The desk's lines, with the places where a mistake can be switched on.
 
+use std::collections::BTreeSet;
+
 use super::{Slip, Slipped};
 use crate::register::{read_answer, write_answer, Register};
+use straight::{Reading, Refusal, LONGEST_LIST};
 
 /// A desk that forgets a last line without its line feed.
 pub fn desk(input: &[u8]) -> Vec<u8> {
@@ -61,9 +64,46 @@ impl Slipped {
             (b'K', [depot, shelf, rest @ ..]) if rest.is_empty() || more => self.tick(book, *depot, *shelf),
             (b'T', [depot, shelf, from, rest @ ..]) if rest.is_empty() || more => self.take(book, *depot, *shelf, *from),
             (b'F', [depot, shelf, rest @ ..]) if rest.is_empty() || more => self.refresh(book, *depot, *shelf),
+            (b'L', [_]) if self.has(Slip::ListOfNone) => 13,
+            (b'L', [crew, bearings @ ..]) => match self.read_list(book, *crew, bearings) {
+                Ok(readings) => {
+                    let each = readings.iter().map(|reading| {
+                        let value = match reading.value {
+                            Some(value) => format!(" {} {} {}", value, reading.diameter, reading.width),
+                            None => " -".to_string(),
+                        };
+                        reading.vector[..depots(book)].iter().fold(value, |text, entry| format!("{} {}", text, entry))
+                    });
+                    return format!("0{}\n", each.collect::<String>());
+                }
+                Err(refusal) => refusal as u32,
+            },
             _ => 13,
         };
         format!("{}\n", number)
+    }
+
+    /// A list, by the straight version but for its own mistakes.
+    fn read_list(&self, book: &mut [u32], crew: u32, bearings: &[u32]) -> Result<Vec<Reading>, Refusal> {
+        let fits = !bearings.is_empty() && bearings.len() <= LONGEST_LIST;
+        if self.has(Slip::ListKeyFirst) && !fits {
+            let known = straight::list(book, crew, &bearings[..bearings.len().min(1)]);
+            if let Err(Refusal::BadKey) = known {
+                return known;
+            }
+            return Err(Refusal::BadList);
+        }
+        let one_by_one = self.has(Slip::ListByReads) && fits;
+        if one_by_one || self.has(Slip::ListOfNine) && bearings.len() == LONGEST_LIST + 1 {
+            return bearings.iter().map(|&bearing| straight::read(book, crew, bearing)).collect();
+        }
+        let mut readings = straight::list(book, crew, bearings)?;
+        if self.has(Slip::ListOnce) {
+            let mut told = BTreeSet::new();
+            let first = readings.into_iter().zip(bearings).filter(|(_, &bearing)| told.insert(bearing));
+            readings = first.map(|(reading, _)| reading).collect();
+        }
+        Ok(readings)
     }
 
     fn parts(&self, text: &[u8]) -> Option<(u8, Vec<u32>)> {

@@ -325,6 +325,16 @@ slips! {
     LineDate,
     /// A W line without a card passes, with one of 1 by 1.
     LineNoCard,
+    /// An L line is read bearing by bearing, not at one moment.
+    ListByReads,
+    /// An L line of no bearings is BAD LINE.
+    ListOfNone,
+    /// An L line of nine bearings is done.
+    ListOfNine,
+    /// An L line answers the same bearing once.
+    ListOnce,
+    /// An L line: BAD KEY is noticed before BAD LIST.
+    ListKeyFirst,
 }
 
 /// The straight version with a mistake.
