@@ -3,6 +3,8 @@
 use mathlib.Core.Path.{_∙_, sym}
 use Rattle.loops.specs.Settled.{Settled}
 use Rattle.image.proofs.Unique.{save-unique, load-unique}
+use Rattle.recorder_told.proofs.Unique as recorder
+use Rattle.recovery_told.proofs.Unique as recovery
 use Rattle.judged.proofs.NumberLaws.{audited-unique}
 use Rattle.events.proofs.answer.answer_line.Kinds as answer-line-kinds
 use Rattle.events.proofs.answer.answer_line.Reads as answer_line
@@ -38,6 +40,10 @@ use Rattle.export.proofs.images.depot_save_image.Kinds as save-image-ki
 use Rattle.export.proofs.images.depot_save_image.Reads as depot_save_image
 use Rattle.export.proofs.images.depot_load_image.Kinds as load-image-kinds
 use Rattle.export.proofs.images.depot_load_image.Reads as depot_load_image
+use Rattle.export.proofs.journal.depot_recorded.Kinds as recorded-kinds
+use Rattle.export.proofs.journal.depot_recorded.Reads as depot_recorded
+use Rattle.export.proofs.journal.depot_recover.Kinds as recover-kinds
+use Rattle.export.proofs.journal.depot_recover.Reads as depot_recover
 use Rattle.export.proofs.days.depot_is_date.Kinds as is-date-kinds
 use Rattle.export.proofs.days.depot_is_date.Reads as depot_is_date
 use Rattle.export.proofs.days.depot_day_number.Kinds as day-number-kinds
@@ -98,6 +104,13 @@ save-image-unique κs args one other end end′ p q = save-unique p q .0
 
 pub load-image-unique : Settled 2 load-image-kinds.ps load-image-kinds.r depot_load_image.Learnt
 load-image-unique κs args one other end end′ p q = load-unique p q .0
+
+-- a call with its record, and recovery
+pub recorded-unique : Settled 4 recorded-kinds.ps recorded-kinds.r depot_recorded.Learnt
+recorded-unique κs args one other end end′ p q = recorder.left-unique p q .0
+
+pub recover-unique : Settled 3 recover-kinds.ps recover-kinds.r depot_recover.Learnt
+recover-unique κs args one other end end′ p q = recovery.left-unique p q .0
 
 -- the calendar
 pub is-date-unique : Settled 0 is-date-kinds.ps is-date-kinds.r depot_is_date.Learnt

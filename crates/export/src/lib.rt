@@ -3,6 +3,7 @@ pub mod audit;
 pub mod days;
 pub mod frames;
 pub mod images;
+pub mod journal;
 pub mod moves;
 pub mod pages;
 

@@ -33,7 +33,7 @@ use Rattle.recorder.specs.Promises.{recordedReply, Recording}
 use Rattle.room.specs.Room.{filled}
 use Rattle.room.proofs.RoomLaws.{filled-none}
 use Rattle.telling.specs.Told.{wordsOf}
-use Rattle.recorder_told.specs.Told.{fits, asksBy, asks, answerWords, kept, made, madeBy}
+use Rattle.recorder_told.specs.Told.{fits, asksBy, asks, answerWords, left, made, madeBy}
 
 -- ---- the numbers of a kind
 
@@ -77,12 +77,12 @@ named-some none ns e = let z : _≡_ {A = ℕ} 0 1 = cc in absurd (omega arith)
 named-some (some m) {k} ns e = let z : m ≡ k = cc in ap (λ (x : Kind). pick (fits (formOf x) (length ns)) (some (requestBy x ns)) none) z
 
 module _ (kind : ℕ) (ns l b o : List ℕ) {named : Named} (e : named ≡ namedBy (kindOf kind)) where
-  pub no-kind : named ≡ Nothing → kept 110 l b o ≡ madeBy (asks kind ns) l b o
+  pub no-kind : named ≡ Nothing → left 110 l b o ≡ madeBy (asks kind ns) l b o
   unfolding asks madeBy
   no-kind h = sym (ap (λ (x : Option Request). madeBy x l b o) (named-none (kindOf kind) ns (sym e ∙ h)))
 
   module _ {k : Kind} (h : named ≡ A k) where
-    pub no-numbers : fits (formOf k) (length ns) ≡ false → kept 110 l b o ≡ madeBy (asks kind ns) l b o
+    pub no-numbers : fits (formOf k) (length ns) ≡ false → left 110 l b o ≡ madeBy (asks kind ns) l b o
     unfolding asks madeBy
     no-numbers w = sym (ap (λ (x : Option Request). madeBy x l b o) (named-some (kindOf kind) ns (sym e ∙ h) ∙ pick-false _ _ w))
 
@@ -139,7 +139,7 @@ recorded-as {l = l} {l′ = l′} {b = b} {b′ = b′} {a = a} e p = subst (λ 
 
 module _ {l l′ : List ℕ} {r : Request} {b b′ : List ℕ} {a : Recorded} (p : Recording l r b a l′ b′) where
   -- refused, there is nothing to tell
-  pub made-refused : (o : List ℕ) → (a .number ≡ 0 → ⊥) → kept (a .number) l′ b′ o ≡ made r l b o
+  pub made-refused : (o : List ℕ) → (a .number ≡ 0 → ⊥) → left (a .number) l′ b′ o ≡ made r l b o
   unfolding made
   made-refused o h =
       let n = p .number in
@@ -175,7 +175,7 @@ module _ {l l′ : List ℕ} {r : Request} {b b′ : List ℕ} {a : Recorded} (p
     reply-is = p .reply ∙ pick-false _ _ has-room
 
     -- done, it is told
-    pub made-done : (o : List ℕ) {o′ : List ℕ} → o′ ≡ put o 0 (a .size ∷ answerWords (onPaper (a .reply))) → kept 0 l′ b′ o′ ≡ made r l b o
+    pub made-done : (o : List ℕ) {o′ : List ℕ} → o′ ≡ put o 0 (a .size ∷ answerWords (onPaper (a .reply))) → left 0 l′ b′ o′ ≡ made r l b o
     unfolding made
     made-done o q =
         let n : 0 ≡ recordedNumber l r (length b) = sym done in

@@ -51,9 +51,8 @@ pub record Left : Type 0 where
   pub bytes : List ℕ
   pub words : List ℕ
 
--- nothing is done
-abbrev pub kept : ℕ → List ℕ → List ℕ → List ℕ → Left
-kept number l b o = record { number = number; book = l; bytes = b; words = o }
+abbrev pub left : ℕ → List ℕ → List ℕ → List ℕ → Left
+left number l b o = record { number = number; book = l; bytes = b; words = o }
 
 -- a request is made together with its record; if it is done, it is told
 unfoldable pub made : Request → List ℕ → List ℕ → List ℕ → Left
@@ -64,11 +63,11 @@ made r l b o = record {
   words = pick (eqb (recordedNumber l r (length b)) 0) (put o 0 (length (recordBytes r) ∷ answerWords (replyTo l r))) o;
 }
 
--- what is asked, if anything is
+-- what is asked, if anything is; else BAD RECORD, and nothing is done
 unfoldable pub madeBy : Option Request → List ℕ → List ℕ → List ℕ → Left
-madeBy none l b o = kept 110 l b o
+madeBy none l b o = left 110 l b o
 madeBy (some r) l b o = made r l b o
 
 -- this kind with these numbers, from the book l, the buffer b and the words o
 unfoldable pub leftBy : ℕ → List ℕ → List ℕ → List ℕ → List ℕ → Left
-leftBy kind ns l b o = inRoom recordedWords o (madeBy (asks kind ns) l b o) (kept noRoom l b o)
+leftBy kind ns l b o = inRoom recordedWords o (madeBy (asks kind ns) l b o) (left noRoom l b o)

@@ -20,7 +20,7 @@ ghost use Rattle.book.specs.Words.{put};
 ghost use Rattle.request.specs.Replies.{onPaper, Carries};
 ghost use Rattle.journal.specs.Record.{formOf, requestBy};
 ghost use Rattle.records.specs.Kinds.{ownOf};
-ghost use Rattle.recorder_told.specs.Told.{fits, answerWords, recordedWords, kept, made, leftBy};
+ghost use Rattle.recorder_told.specs.Told.{fits, answerWords, recordedWords, left, made, leftBy};
 
 // The words of an answer, and with the record's length before them.
 const ANSWER_WORDS: usize = 64;
@@ -99,7 +99,7 @@ fn tell_call(
     out: &mut [u32],
 ) -> u32
     requires { ⌜ (ownOf kind ≤ length (now numbers)) × (recordedWords ≤ length (now out)) ⌝ }
-    ensures { λ r. ⌜ kept r (now (book .exit)) (now (bytes .exit)) (now (out .exit))
+    ensures { λ r. ⌜ left r (now (book .exit)) (now (bytes .exit)) (now (out .exit))
         ≡ made (requestBy kind (now (numbers .entry))) (now (book .entry)) (now (bytes .entry)) (now (out .entry)) ⌝ }
 {
     let request = request_by(kind, numbers);
@@ -121,7 +121,7 @@ pub fn tell_recorded(
     bytes: &mut [u8],
     out: &mut [u32],
 ) -> u32
-    ensures { λ r. ⌜ kept r (now (book .exit)) (now (bytes .exit)) (now (out .exit))
+    ensures { λ r. ⌜ left r (now (book .exit)) (now (bytes .exit)) (now (out .exit))
         ≡ leftBy kind (now (numbers .entry)) (now (book .entry)) (now (bytes .entry)) (now (out .entry)) ⌝ }
 {
     if out.len() < RECORDED_WORDS {
