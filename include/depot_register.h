@@ -155,9 +155,47 @@ uint32_t depot_read_frame(const uint32_t *book, size_t words, uint32_t depot, ui
                           const uint8_t *frame, size_t length, uint32_t *messages, size_t room, uint32_t *out,
                           size_t out_count);
 
-/* Images of a book: docs/JOURNAL.md has every byte. */
-#define DEPOT_BAD_IMAGE 112    /* depot_load_image only: the length or the header is not that of an image */
-#define DEPOT_IMAGE_BYTES 65568 /* bytes of an image */
+/* The journal: one record for each call that was done, from which the book is built again; docs/JOURNAL.md has every byte. A
+ * record is of one of these kinds, and behind it come the call's numbers, in the order of the functions above: */
+enum depot_kind {
+    DEPOT_KIND_SETUP = 1,   /* depots, shelves, bearings, crews, the homes */
+    DEPOT_KIND_READ = 2,    /* crew, bearing */
+    DEPOT_KIND_WRITE = 3,   /* crew, bearing, value, diameter, width */
+    DEPOT_KIND_TICK = 4,    /* depot, shelf */
+    DEPOT_KIND_TAKE = 5,    /* depot, shelf, from */
+    DEPOT_KIND_REFRESH = 6, /* depot, shelf */
+    DEPOT_KIND_MOVE = 7,    /* crew, depot */
+    DEPOT_KIND_LIST = 8     /* crew, the bearings */
+};
+
+enum depot_journal_answer {
+    DEPOT_BAD_RECORD = 110, /* no kind, or not as many numbers as the kind has */
+    DEPOT_CUT = 111,        /* depot_recover only: the bytes end inside a record */
+    DEPOT_BAD_IMAGE = 112   /* depot_load_image only: the length or the header is not that of an image */
+};
+
+#define DEPOT_RECORD_BYTES 82    /* bytes of the longest record that a done call leaves */
+#define DEPOT_RECORDED_WORDS 65  /* room that what depot_recorded tells takes in `out` */
+#define DEPOT_RECOVERED_COUNTS 2 /* room that what depot_recover tells takes in `out` */
+#define DEPOT_IMAGE_BYTES 65568  /* bytes of an image */
+
+/* Makes a call and its record together: the call of this kind with these `count` numbers. Checks: 100 if out_count is below
+ * DEPOT_RECORDED_WORDS, 110, 100 if the record has more than `room` bytes, then those of the call. A refusal changes no word
+ * of the book, of `out` and no byte of `record`.
+ * Done: the record stands in `record` from its first byte on, no byte past it is written, and out[0] is how many it has.
+ * From out[1] on the answer stands as depot_read, depot_write or depot_list leaves it, and 0 behind it up to out[64]; of any
+ * other call 0. No other element of `out` is written. Append the record to the journal, have it on the disk, and only then
+ * give the answer away. */
+uint32_t depot_recorded(uint32_t *book, size_t words, uint32_t kind, const uint32_t *numbers, size_t count, uint8_t *record,
+                        size_t room, uint32_t *out, size_t out_count);
+
+/* Recovers the `length` bytes of a journal, any bytes, on top of this book: one of zeros, or an image's. Record after record
+ * is done, up to the first that is not whole or is refused. Answers how it ended: 0 if the bytes end with a record, or there
+ * are none; DEPOT_CUT; a fault, DEPOT_BAD_RECORD or the number with which the record's call is refused. The book is that
+ * after the records done; out[0] is how many these are, and out[1] how many bytes they have. After 0 and DEPOT_CUT more bytes
+ * may follow: call again with the bytes behind those out[1], and the new ones behind them. DEPOT_NO_ROOM if out_count is
+ * below DEPOT_RECOVERED_COUNTS; then nothing is done. */
+uint32_t depot_recover(uint32_t *book, size_t words, const uint8_t *bytes, size_t length, uint64_t *out, size_t out_count);
 
 /* Saves a fit book as an image into the first DEPOT_IMAGE_BYTES bytes of `image`. Checks: 1, 100 if `room` is below
  * DEPOT_IMAGE_BYTES. */

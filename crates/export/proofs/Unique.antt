@@ -40,10 +40,10 @@ use Rattle.export.proofs.images.depot_save_image.Kinds as save-image-ki
 use Rattle.export.proofs.images.depot_save_image.Reads as depot_save_image
 use Rattle.export.proofs.images.depot_load_image.Kinds as load-image-kinds
 use Rattle.export.proofs.images.depot_load_image.Reads as depot_load_image
-use Rattle.export.proofs.journal.depot_recorded.Kinds as recorded-kinds
-use Rattle.export.proofs.journal.depot_recorded.Reads as depot_recorded
-use Rattle.export.proofs.journal.depot_recover.Kinds as recover-kinds
-use Rattle.export.proofs.journal.depot_recover.Reads as depot_recover
+use Rattle.export.proofs.journals.depot_recorded.Kinds as recorded-kinds
+use Rattle.export.proofs.journals.depot_recorded.Reads as depot_recorded
+use Rattle.export.proofs.journals.depot_recover.Kinds as recover-kinds
+use Rattle.export.proofs.journals.depot_recover.Reads as depot_recover
 use Rattle.export.proofs.days.depot_is_date.Kinds as is-date-kinds
 use Rattle.export.proofs.days.depot_is_date.Reads as depot_is_date
 use Rattle.export.proofs.days.depot_day_number.Kinds as day-number-kinds

@@ -3,7 +3,7 @@ pub mod audit;
 pub mod days;
 pub mod frames;
 pub mod images;
-pub mod journal;
+pub mod journals;
 pub mod moves;
 pub mod pages;
 
