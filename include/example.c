@@ -102,11 +102,54 @@ static void falls_on(uint32_t n, uint32_t month, uint32_t day, uint32_t number) 
     expect(out[3], number, "day number");
 }
 
+/* A call and its record, at the end of a journal. Nothing but the journal need be kept. */
+static uint32_t recorded(uint32_t kind, const uint32_t *numbers, size_t count, uint8_t *journal, size_t room, size_t *length) {
+    uint32_t out[DEPOT_RECORDED_WORDS];
+    uint32_t answer = depot_recorded(book, DEPOT_BOOK_WORDS, kind, numbers, count, journal + *length, room - *length, out,
+                                     DEPOT_RECORDED_WORDS);
+    if (answer == DEPOT_DONE) *length += out[0];
+    return answer;
+}
+
+/* The power goes: of the book nothing is left, and of the journal all but the end of its last record. */
+static void the_power_goes(void) {
+    static uint8_t journal[1000], image[DEPOT_IMAGE_BYTES];
+    const uint32_t setup[] = {2, SHELVES, BEARINGS, 2, PUMP_HOUSE, MILL};
+    const uint32_t write[] = {PUMP_CREW, MOTOR, 9131, bits(motor_card.diameter), bits(motor_card.width)};
+    const uint32_t tick[] = {PUMP_HOUSE, BEARING_SHELF}, strange[] = {7, 0}, read[] = {PUMP_CREW, MOTOR};
+    uint64_t told[DEPOT_RECOVERED_COUNTS];
+    size_t length = 0;
+
+    expect(recorded(DEPOT_KIND_SETUP, setup, 6, journal, sizeof journal, &length), DEPOT_DONE, "setup with its record");
+    expect(recorded(DEPOT_KIND_WRITE, write, 5, journal, sizeof journal, &length), DEPOT_DONE, "write with its record");
+    expect(recorded(DEPOT_KIND_TICK, strange, 2, journal, sizeof journal, &length), DEPOT_BAD_DEPOT, "refused, no record");
+    expect(recorded(DEPOT_KIND_TICK, tick, 2, journal, sizeof journal, &length), DEPOT_DONE, "tick with its record");
+    expect((uint32_t)length, 26 + 21 + 9, "bytes of the journal");
+
+    memset(book, 0, sizeof book);
+    expect(depot_recover(book, DEPOT_BOOK_WORDS, journal, length - 1, told, DEPOT_RECOVERED_COUNTS), DEPOT_CUT, "cut");
+    printf("  of %lu bytes %lu are left: %lu records, %lu bytes\n", (unsigned long)length, (unsigned long)length - 1,
+           (unsigned long)told[0], (unsigned long)told[1]);
+    expect((uint32_t)told[0], 2, "records that are whole");
+    expect((uint32_t)told[1], 26 + 21, "their bytes");
+    reads("the pump crew", PUMP_CREW, "the motor", MOTOR, 1, 9131, motor_card);
+
+    expect(depot_save_image(book, DEPOT_BOOK_WORDS, image, sizeof image), DEPOT_DONE, "image saved");
+    memset(book, 0, sizeof book);
+    expect(depot_load_image(book, DEPOT_BOOK_WORDS, image, sizeof image), DEPOT_DONE, "image loaded");
+    length = 0; /* a new journal goes on from the image, without a setup */
+    expect(recorded(DEPOT_KIND_READ, read, 2, journal, sizeof journal, &length), DEPOT_DONE, "read with its record");
+    expect(depot_load_image(book, DEPOT_BOOK_WORDS, image, sizeof image - 1), DEPOT_BAD_IMAGE, "a shorter image");
+    journal[0] = 9;
+    expect(depot_recover(book, DEPOT_BOOK_WORDS, journal, length, told, DEPOT_RECOVERED_COUNTS), DEPOT_BAD_RECORD, "no kind");
+}
+
 int main(void) {
     const uint32_t homes[2] = {PUMP_HOUSE, MILL};
+    const uint32_t both[2] = {BEARING, MOTOR};
     const char *line = "R 1 0";
     uint8_t answer[DEPOT_ANSWER_BYTES];
-    uint32_t out[DEPOT_READ_WORDS]; /* the longest of the answers below */
+    uint32_t out[DEPOT_LIST_WORDS]; /* the longest of the answers below */
     size_t length;
     const uint32_t history[2 * DEPOT_ENTRY_WORDS] = {
         0, 0, 0, 9200, 1, 1, 0, 1, 0, 0, 0, /* a write: crew 0, bearing 0, day 9200, a card, origin 0, the vector */
@@ -135,6 +178,12 @@ int main(void) {
     reads("the mill crew", MILL_CREW, "the bearing", BEARING, 1, 9200, bearing_card);
     reads("the mill crew", MILL_CREW, "the motor", MOTOR, 1, 9131, motor_card);
 
+    puts("A list of both is read at one moment.");
+    expect(depot_list(book, DEPOT_BOOK_WORDS, MILL_CREW, both, 2, out, DEPOT_LIST_WORDS), DEPOT_DONE, "list");
+    printf("  the mill crew reads day %lu and day %lu\n", (unsigned long)out[1], (unsigned long)out[DEPOT_READ_WORDS + 1]);
+    expect(out[1], 9200, "the bearing's day");
+    expect(out[DEPOT_READ_WORDS + 1], 9131, "the motor's day");
+
     puts("A line of the desk asks the same.");
     length = depot_line(book, DEPOT_BOOK_WORDS, (const uint8_t *)line, strlen(line), answer, sizeof answer);
     printf("  %s -> %.*s", line, (int)length, (const char *)answer);
@@ -151,6 +200,9 @@ int main(void) {
     expect(depot_audit(history, DEPOT_ENTRY_WORDS), DEPOT_CAUSAL, "the write alone");
     expect(DEPOT_AUDIT_ANSWER(depot_audit(history, 2 * DEPOT_ENTRY_WORDS)), DEPOT_LOW_READ, "then a read of nothing");
     expect(DEPOT_AUDIT_ENTRY(depot_audit(history, 2 * DEPOT_ENTRY_WORDS)), 1, "which is entry 1");
+
+    puts("The power goes. A journal gives the book back, up to its last whole record.");
+    the_power_goes();
 
     puts("What is wrong is refused by number, and changes nothing.");
     expect(depot_tick(book, DEPOT_BOOK_WORDS, 7, 0), DEPOT_BAD_DEPOT, "bad depot");

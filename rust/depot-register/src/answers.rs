@@ -180,6 +180,17 @@ impl Written {
     }
 }
 
+/// What a call that is done answers, whichever it is.
+#[derive(Clone, Debug, PartialEq)]
+pub enum Answer {
+    /// That it is done, and no more: a setup, a tick, a take, a refresh or a move.
+    Done,
+    Read(Reading),
+    Written(Written),
+    /// Of each bearing, in list order.
+    List(Vec<Reading>),
+}
+
 /// Which depots store a depot's present version of a bearing or a greater one.
 #[derive(Clone, Copy, Debug, PartialEq, Eq, Hash)]
 pub struct Holders {

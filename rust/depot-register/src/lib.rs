@@ -50,12 +50,16 @@ pub mod audit;
 pub mod calendar;
 mod card;
 pub mod frames;
+pub mod image;
+pub mod journal;
 mod numbers;
 pub mod raw;
+mod request;
 
-pub use answers::{Holders, Reading, Refusal, Written};
+pub use answers::{Answer, Holders, Reading, Refusal, Written};
 pub use card::Card;
 pub use numbers::{Bearing, Crew, Depot, Shelf};
+pub use request::{Kind, Request};
 
 /// The version of the register, as `include/depot_register.h` has it.
 pub const VERSION: &str = env!("CARGO_PKG_VERSION");
@@ -97,10 +101,15 @@ impl Register {
     /// assert_eq!(Register::setup(counts, &[]), Err(Refusal::BadCounts));
     /// ```
     pub fn setup(counts: Counts, homes: &[Depot]) -> Result<Register, Refusal> {
-        let mut register = Register { book: vec![0; WORDS].into_boxed_slice() };
+        let mut register = Register::zeros();
         let homes: Vec<u32> = homes.iter().map(|depot| depot.0).collect();
         let number = raw::setup(&mut register.book, counts.depots, counts.shelves, counts.bearings, counts.crews, &homes);
         Refusal::check(number).map(|()| register)
+    }
+
+    /// A book of zeros, which is not fit. It is never handed out before a setup is done on it.
+    fn zeros() -> Register {
+        Register { book: vec![0; WORDS].into_boxed_slice() }
     }
 
     /// A register from the words of a book, as [`words`](Register::words) gave them.
@@ -157,7 +166,7 @@ impl Register {
         let mut out = [0; 64];
         let numbers: Vec<u32> = bearings.iter().map(|bearing| bearing.0).collect();
         Refusal::check(raw::list(&mut self.book, crew.0, &numbers, &mut out))?;
-        Ok(out.chunks_exact(8).take(bearings.len()).map(|words| reading(words.try_into().unwrap())).collect())
+        Ok(readings(&out, bearings.len()))
     }
 
     /// A crew writes a bearing's value, a day from 0 to [`LAST_DAY`](calendar::LAST_DAY), and its card, at its home.
@@ -179,8 +188,7 @@ impl Register {
         let mut out = [0; 2];
         let (diameter, width) = (card.diameter.to_bits(), card.width.to_bits());
         Refusal::check(raw::write(&mut self.book, crew.0, bearing.0, value, diameter, width, &mut out))?;
-        let [stamp, current] = out;
-        Ok(if current == 1 { Written::Current { stamp } } else { Written::Superseded { stamp } })
+        Ok(written(out))
     }
 
     /// A shelf's clock moves on by one, and a heartbeat tells the other depots.
@@ -285,5 +293,19 @@ fn reading([written, value, diameter, width, a, b, c, d]: [u32; 8]) -> Reading {
         Reading::Written { value, card, vector: [a, b, c, d] }
     } else {
         Reading::Unwritten
+    }
+}
+
+/// What the words of a list's answer tell of its first bearings, so many.
+fn readings(words: &[u32], count: usize) -> Vec<Reading> {
+    words.chunks_exact(8).take(count).map(|words| reading(words.try_into().expect("eight words"))).collect()
+}
+
+/// What the two words of a write's answer tell.
+fn written([stamp, current]: [u32; 2]) -> Written {
+    if current == 1 {
+        Written::Current { stamp }
+    } else {
+        Written::Superseded { stamp }
     }
 }

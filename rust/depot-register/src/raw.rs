@@ -78,6 +78,22 @@ mod library {
             out: *mut u32,
             out_count: usize,
         ) -> u32;
+        #[allow(clippy::too_many_arguments)]
+        pub fn depot_recorded(
+            book: *mut u32,
+            words: usize,
+            kind: u32,
+            numbers: *const u32,
+            count: usize,
+            record: *mut u8,
+            room: usize,
+            out: *mut u32,
+            out_count: usize,
+        ) -> u32;
+        pub fn depot_recover(book: *mut u32, words: usize, bytes: *const u8, length: usize, out: *mut u64, out_count: usize)
+            -> u32;
+        pub fn depot_save_image(book: *const u32, words: usize, image: *mut u8, room: usize) -> u32;
+        pub fn depot_load_image(book: *mut u32, words: usize, image: *const u8, length: usize) -> u32;
         pub fn depot_audit(history: *const u32, words: usize) -> u32;
         pub fn depot_is_date(year: u32, month: u32, day: u32) -> u32;
         pub fn depot_day_number(year: u32, month: u32, day: u32, out: *mut u32, out_count: usize) -> u32;
@@ -183,6 +199,24 @@ pub fn read_frame(
     unsafe {
         library::depot_read_frame(book, words, depot, shelf, from, expected, bytes, length, handed, room, out.as_mut_ptr(), out.len())
     }
+}
+
+pub fn recorded(book: &mut [u32], kind: u32, numbers: &[u32], record: &mut [u8], out: &mut [u32]) -> u32 {
+    let (book, words, bytes, room) = (book.as_mut_ptr(), book.len(), record.as_mut_ptr(), record.len());
+    let (asked, count) = (numbers.as_ptr(), numbers.len());
+    unsafe { library::depot_recorded(book, words, kind, asked, count, bytes, room, out.as_mut_ptr(), out.len()) }
+}
+
+pub fn recover(book: &mut [u32], bytes: &[u8], out: &mut [u64]) -> u32 {
+    unsafe { library::depot_recover(book.as_mut_ptr(), book.len(), bytes.as_ptr(), bytes.len(), out.as_mut_ptr(), out.len()) }
+}
+
+pub fn save_image(book: &[u32], image: &mut [u8]) -> u32 {
+    unsafe { library::depot_save_image(book.as_ptr(), book.len(), image.as_mut_ptr(), image.len()) }
+}
+
+pub fn load_image(book: &mut [u32], image: &[u8]) -> u32 {
+    unsafe { library::depot_load_image(book.as_mut_ptr(), book.len(), image.as_ptr(), image.len()) }
 }
 
 pub fn audit(history: &[u32]) -> u32 {

@@ -1,7 +1,7 @@
 //! The specification's listing, by lines and by typed calls.
 
 use depot_register::calendar::LAST_DAY;
-use depot_register::{Bearing, Card, Counts, Crew, Depot, Reading, Refusal, Register, Shelf, Written};
+use depot_register::{Bearing, Card, Counts, Crew, Depot, Reading, Refusal, Register, Shelf, Written, ANSWER_BYTES};
 
 const COUNTS: Counts = Counts { depots: 2, shelves: 2, bearings: 4, crews: 2 };
 const LINES: [&str; 12] = [
@@ -108,7 +108,7 @@ fn raw_calls_answer_wrong_lengths() {
     assert_eq!((book, out), (fresh, [7; 8]), "without room nothing is done");
     assert_eq!(raw::is_fit(&[]), 0);
     assert_eq!(raw::greater(&[], &[], 2), 0);
-    assert_eq!(raw::line(&mut [0; 16_384], b"R 0 0", &mut [0; 79]), 0, "too little room for a line's answer");
+    assert_eq!(raw::line(&mut [0; 16_384], b"R 0 0", &mut [0; ANSWER_BYTES - 1]), 0, "too little room for a line's answer");
 }
 
 #[test]

@@ -3,7 +3,7 @@
 //! finds the shortest list that shows a difference, and [`tally`] counts what was reached. [`values`] are those around the
 //! calendar's end. [`damage`] spoils each word of a book in turn, for each call; [`parts`] says what a call looks at. [`slips`]
 //! are registers with one mistake each, to show that it would be found. [`frames`] does all this for the frames of the radio
-//! link, apart from the rest.
+//! link, apart from the rest, and [`journal`] for calls with their records, recovery and images.
 
 pub mod arguments;
 pub mod books;
@@ -12,6 +12,7 @@ pub mod damage;
 pub mod event;
 pub mod frames;
 pub mod generate;
+pub mod journal;
 pub mod lines;
 pub mod parts;
 pub mod progress;

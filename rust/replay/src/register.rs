@@ -17,7 +17,7 @@ pub trait Register {
 }
 
 /// The room that every answer line has.
-pub const ANSWER_BYTES: usize = 640;
+pub const ANSWER_BYTES: usize = 618;
 
 /// NO ROOM: `out` is too short for the answer.
 pub const NO_ROOM: u32 = 100;
