@@ -5,6 +5,7 @@
 #   tools/rust.sh replay 200000        the straight version against the static library, event by event
 #   tools/rust.sh long                 the same with 10,000,000 events, and 1,000,000 damaged lines and books
 #   tools/rust.sh desk [COMMAND]       the desk, or what COMMAND starts, on 300,000 lines, a third of them damaged
+#   tools/rust.sh kill [TIMES]         the desk with a journal, killed TIMES (300) at any moment and as often by a power cut
 #   tools/rust.sh bench                the tables of docs/SPEED.md
 #   tools/rust.sh example              include/example.c, compiled, linked and run
 #   tools/rust.sh picture [OPTIONS]    a picture of a run: lines of the desk in, one page out; `picture --help` has its options
@@ -28,7 +29,7 @@ usage() {
 }
 
 case $#:${1-} in
-*:test | *:replay | *:long | *:desk | *:bench | *:picture | *:cargo | 1:setup | 1:emulator | 1:example | 1:pictures) ;;
+*:test | *:replay | *:long | *:desk | *:kill | *:bench | *:picture | *:cargo | 1:setup | 1:emulator | 1:example | 1:pictures) ;;
 2:pictures) [ "$2" = check ] || { echo "rust.sh: pictures takes check, and not $2" >&2; exit 2; } ;;
 1:--help | 1:-h) usage; exit 0 ;;
 0:) usage >&2; exit 2 ;;
@@ -128,6 +129,32 @@ run() {
     "$cargo" run --manifest-path "$root/rust/Cargo.toml" --quiet --release --package "$program" -- "$@"
 }
 
+# The library that makes a kill a power cut, for what this machine runs.
+forgets() {
+    mkdir -p "$root/target/kill"
+    "$cc" -std=gnu99 -Wall -Wextra -Werror -shared -fPIC -O2 "$root/rust/kill/forgets.c" -o "$root/target/kill/forgets.so" ||
+        fail "rust/kill/forgets.c does not compile"
+    echo "$root/target/kill/forgets.so"
+}
+
+# Proves and links the desk and its snapshot. `start` are the words that start them here, `start_forgetting` those on a disk that forgets.
+programs() {
+    local kit emulator library
+    command -v rt >/dev/null || fail "rt, which proves and links the desk, is not on the path"
+    mkdir -p "$root/target"
+    (cd "$root" && rt check desk && rt check snapshot) </dev/null >"$root/target/programs.log" 2>&1 || fail "the desk is not proved; target/programs.log has all that rt said"
+    library=$(forgets)
+    start=() start_forgetting=(env "LD_PRELOAD=$library")
+    if [ "$machine" = aarch64 ]; then
+        kit=$(rt doc)
+        kit=${kit%/docs/*}/on/$machine/toolchain
+        emulator=$kit/bin/qemu-x86_64
+        [ -x "$emulator" ] || emulator=qemu-x86_64
+        start=("$emulator" "$kit/lib/ld-linux-x86-64.so.2" --library-path "$kit/lib")
+        start_forgetting=("${start[@]}" --preload "$library")
+    fi
+}
+
 # One picture of docs/, for a desk and for a telephone: its name, its title; the lines of the desk come in.
 drawn() {
     local lines
@@ -161,6 +188,8 @@ test)
     # From 1.89 on cargo runs the examples of the docs under the emulator too.
     release=$("$cargo" --version | cut -d. -f2)
     [ "$machine" = x86_64 ] || [ "$release" -ge 89 ] || fail "$("$cargo" --version) is older than 1.89: upgrade cargo-web and rustc-web"
+    DEPOT_FORGETS=$(forgets)
+    export DEPOT_FORGETS
     "$cargo" test --manifest-path "$root/rust/Cargo.toml" --quiet --release --workspace "$@"
     ;;
 replay) run replay "$@" ;;
@@ -173,11 +202,23 @@ desk)
     cmp "$lines/desk.out" "$lines/desk.got" || fail "the desk answers otherwise: target/desk/desk.got, and not desk.out"
     echo "desk: every answer to the byte"
     ;;
+kill)
+    programs
+    kills=("$cargo" run --manifest-path "$root/rust/Cargo.toml" --quiet --release --package kill -- "$@" "$root/target/bin")
+    "${kills[@]}" "${start[@]}"
+    echo "kill: now on a disk that forgets what was not synced"
+    "${kills[@]}" "${start_forgetting[@]}"
+    ;;
 picture) run picture "$@" ;;
 pictures) pictures "$@" ;;
 bench)
     [ "$machine" = x86_64 ] || echo "Both sides are x86-64 programs under the same emulator: only the ratios mean something."
-    run bench "$@"
+    desk=()
+    if command -v rt >/dev/null; then
+        programs
+        desk=(--desk "${start[@]}" "$root/target/bin/desk")
+    fi
+    run bench "$@" "${desk[@]}"
     ;;
 example)
     archive

@@ -14,11 +14,11 @@ use borrow.Author.Tests.{eq-eqb, ne-eqb}
 use Rattle.loops.proofs.BoolLaws.{le-or-lt, eq-or-ne, pick-true, pick-false}
 use Rattle.line.specs.Reading.{Reading, reading}
 use Rattle.line.proofs.LineLaws.{reading-cut}
-use Rattle.journal.specs.Journal.{replay}
+use Rattle.upkeep.specs.Requests.{last}
 use Rattle.events.specs.Answering.{lineFeed, Giving, readingSays, readingDone, readingBook, answerTo, doneBy, bookAfterLine}
 use Rattle.stream.specs.Stream.{linesFrom, linesOf, givenTo, doneIn, bookAfterAll, zeroBook, output, lineAt, bookAt, givesAt, lineThrough, bookThrough, givesThrough}
 use Rattle.stream.specs.Stream.{givesLast, bookLast, linePiece, bookPiece, givesPiece, linePieces, bookPieces, givesPieces, saysPieces, donePieces, joined, Pieces}
-use Rattle.stream.specs.Stream.{lineIn, Holder, Began, Served}
+use Rattle.stream.specs.Stream.{lineIn, Holder, Fresh, Began, Served}
 use Rattle.stream.proofs.StreamLaws.{line-ends, book-ends, gives-ends, line-grows, line-full, book-stays, gives-nothing, line-append, book-append, gives-append, piece-some, piece-gives}
 
 -- ---- what is kept of a line serves for the line
@@ -197,10 +197,13 @@ unfolding bookPieces linePieces
 book-piece-more l p [] c = refl
 book-piece-more l p (x ∷ cs) c = book-piece-more (bookPiece l p x) (linePiece p x) cs c
 
--- the desk begins with a book of zeros
+-- the desk may begin with a book that a journal goes on from, so with a book of zeros
+pub began-fresh : (l : List ℕ) → Fresh l → Began l
+unfolding last
+began-fresh l h = record { from = l; fresh = h; requests = []; book = refl }
+
 pub began-zeros : Began zeroBook
-unfolding replay
-began-zeros = record { from = zeroBook; sound = inl refl; bytes = []; book = refl }
+began-zeros = began-fresh zeroBook (inl refl)
 
 -- the desk starts: no line is begun
 pub served-start : (l : List ℕ) → Served l l (replicate 122 0)

@@ -10,8 +10,7 @@ use lib.ListN.{length, replicate, take, getD}
 use Rattle.loops.specs.Loops.{pick}
 use Rattle.book.specs.Layout.{bookWords}
 use Rattle.fit.specs.Fit.{fit}
-use Rattle.upkeep.specs.Requests.{Request}
-use Rattle.journal.specs.Journal.{start, replay}
+use Rattle.upkeep.specs.Requests.{Request, last}
 use Rattle.events.specs.Answering.{lineFeed, Giving, answerTo, doneBy, recordTo, bookAfterLine}
 
 -- ---- what is promised of a whole input
@@ -159,12 +158,16 @@ pub record Holder (m : List ℕ) : Type 0 where
 
 -- ---- the loop of the desk
 
--- the book l that a desk begins with: what recovery makes of some bytes, of none to begin with, from a book of zeros or from the fit book of an image
+-- the book that a journal goes on from: one of zeros, or the fit book of an image
+abbrev pub Fresh : List ℕ → Type 0
+Fresh l = (l ≡ zeroBook) ⊎ (fit l ≡ true)
+
+-- the book l that a desk begins with: such a book after some requests, as the records of a journal ask them, or after none
 pub record Began (l : List ℕ) : Type 0 where
   pub from : List ℕ
-  pub sound : (from ≡ zeroBook) ⊎ (fit from ≡ true)
-  pub bytes : List ℕ
-  pub book : l ≡ replay (start from) bytes .book
+  pub fresh : Fresh from
+  pub requests : List Request
+  pub book : l ≡ last from requests
 
 -- the book l is the one after some pieces, from the book l₀ on, and the buffer m holds the line that they leave begun
 pub record Served (l₀ l m : List ℕ) : Type 0 where

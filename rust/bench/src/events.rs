@@ -17,20 +17,22 @@ pub enum Kind {
     Tick,
     Take,
     Refresh,
+    List,
     IsFit,
     Mixed,
 }
 
-pub const COUNT_OF_KINDS: usize = 8;
+pub const COUNT_OF_KINDS: usize = 9;
 
 /// The calls that are timed alone.
-pub const KINDS: [(Kind, &str); 7] = [
+pub const KINDS: [(Kind, &str); 8] = [
     (Kind::Setup, "setup"),
     (Kind::Read, "read"),
     (Kind::Write, "write"),
     (Kind::Tick, "tick"),
     (Kind::Take, "take"),
     (Kind::Refresh, "refresh"),
+    (Kind::List, "list of eight"),
     (Kind::IsFit, "is_fit"),
 ];
 
@@ -50,6 +52,7 @@ pub fn call<R: Register>(register: &R, event: &Event, book: &mut [u32], fresh: &
         Event::Tick { depot, shelf } => register.tick(book, *depot, *shelf) == 0,
         Event::Take { depot, shelf, from } => register.take(book, *depot, *shelf, *from) == 0,
         Event::Refresh { depot, shelf } => register.refresh(book, *depot, *shelf) == 0,
+        Event::List { crew, bearings } => register.list(book, *crew, bearings, &mut [0; 64]) == 0,
         Event::Setup { counts, homes } => register.setup(fresh, *counts, homes) == 0,
         Event::Fit => register.is_fit(book) == 1,
         _ => false,
@@ -114,6 +117,11 @@ impl Course {
         Event::Refresh { depot: self.random.below(self.n.depots) as u32, shelf: self.random.below(self.n.shelves) as u32 }
     }
 
+    fn list(&mut self) -> Event {
+        let bearings = (0..8).map(|_| self.random.below(self.n.bearings) as u32).collect();
+        Event::List { crew: self.random.below(self.n.crews) as u32, bearings }
+    }
+
     /// One of many. A message sent to each other depot wants a take there, so takes go by the count of depots.
     fn any(&mut self) -> Event {
         match self.random.below(70 + 28 * (self.n.depots - 1)) {
@@ -166,7 +174,7 @@ pub fn mixed(counts: [u32; 4], count: usize) -> (Vec<u32>, Vec<Event>) {
 }
 
 /// A book and blocks of one call each, all done, with so many of each call and more: round after round of writes, ticks,
-/// takes, refreshes and reads, a look at the whole book, and setups.
+/// takes, refreshes, reads and lists, a look at the whole book, and setups.
 pub fn alone(counts: [u32; 4], count: usize) -> (Vec<u32>, Vec<Block>) {
     let mut course = Course::new(counts);
     let shelves = course.n.depots * course.n.shelves;
@@ -180,6 +188,7 @@ pub fn alone(counts: [u32; 4], count: usize) -> (Vec<u32>, Vec<Block>) {
             course.block(Kind::Take, 16 * shelves * course.n.depots, Course::take),
             course.block(Kind::Refresh, 4 * shelves, Course::refresh),
             course.block(Kind::Read, 8 * shelves, Course::read),
+            course.block(Kind::List, 4 * shelves, Course::list),
             Block { kind: Kind::IsFit, events: vec![Event::Fit; 2 * shelves] },
             Block { kind: Kind::Setup, events: vec![Event::Setup { counts, homes: homes(counts) }; 2 * shelves] },
         ];

@@ -1,9 +1,11 @@
-//! `bench [EVENTS]`: times the same calls on the static library and on the straight version, in one process, and prints the
-//! tables of docs/SPEED.md. Each figure is the median of several runs. The two sides take turns, and so do the rows of the
-//! tables, so that what else the computer does in a while falls on all of them.
+//! `bench [EVENTS] [--desk WORDS...]`: times the same calls on the static library and on the straight version, in one process, and
+//! prints the tables of docs/SPEED.md. Each figure is the median of several runs. The two sides take turns, and so do the rows of
+//! the tables, so that what else the computer does in a while falls on all of them. WORDS start a desk, to be timed too.
 
 mod audits;
+mod desks;
 mod events;
+mod journals;
 mod timed;
 
 use std::env;
@@ -20,14 +22,15 @@ const RUNS: usize = 21;
 const REGISTERS: [[u32; 4]; 3] = [[2, 2, 4, 2], [3, 2, 32, 8], [4, 4, 160, 16]];
 
 fn main() {
-    let words: Vec<String> = env::args().skip(1).collect();
+    let mut words: Vec<String> = env::args().skip(1).collect();
+    let desk = words.iter().position(|word| word == "--desk").map_or(Vec::new(), |at| words.split_off(at)[1..].to_vec());
     let count = match &words[..] {
         [] => Some(100_000),
         [word] => word.parse().ok().filter(|&count: &usize| count > 0),
         _ => None,
     };
     let count = count.unwrap_or_else(|| {
-        eprintln!("usage: bench [EVENTS]    EVENTS (100000) are 1 or more");
+        eprintln!("usage: bench [EVENTS] [--desk WORDS...]    EVENTS (100000) are 1 or more; WORDS start a desk");
         exit(2);
     });
 
@@ -82,6 +85,11 @@ fn main() {
     for (name, timed) in ["mixed events", "BAD LINE, of every kind", "BAD LINE, one byte each"].iter().zip(&texts) {
         let (library, straight) = timed.medians(Kind::Mixed);
         println!("| {} | {:.0} | {:.0} | {:.2} |", name, 1e9 / library, 1e9 / straight, library / straight);
+    }
+
+    journals::print(count, &REGISTERS);
+    if !desk.is_empty() {
+        desks::print(count, &desk);
     }
 
     println!("\nA history of 256 entries audited, median of {} runs, microseconds:\n", RUNS);
