@@ -2,6 +2,10 @@
 # The desk: lines from standard input, one answer line for each to standard output. docs/DESK.md has the lines and the answers.
 #
 #   tools/desk.sh                      type lines, each is answered at once; Ctrl-D ends
+#   tools/desk.sh JOURNAL              the same, and the register is kept in this file, which is made if there is none
+#   tools/desk.sh JOURNAL IMAGE        the same; the journal goes on from an image
+#   tools/desk.sh --image JOURNAL NEW_IMAGE [IMAGE]
+#                                      saves an image of a journal's register to a new file; IMAGE is the one that the journal goes on from
 #   tools/desk.sh < crates/desk/stdin  the listing of docs/DESK.md
 #   tools/desk.sh --help               this text
 #
@@ -22,11 +26,26 @@ usage() {
     sed -n '2,/^[^#]/s/^# \{0,1\}//p' "$self"
 }
 
+program=desk
 case $#:${1-} in
-0:) ;;
 1:--help | 1:-h) usage; exit 0 ;;
-*) { echo "desk.sh: it takes no arguments: lines come from standard input"; usage; } >&2; exit 2 ;;
+3:--image | 4:--image)
+    program=snapshot
+    shift
+    ;;
+*:-*) { echo "desk.sh: no such option, or not as many files as it takes: $1"; usage; } >&2; exit 2 ;;
+0: | 1:* | 2:*) ;;
+*) { echo "desk.sh: too many files: a journal, and the image that it goes on from"; usage; } >&2; exit 2 ;;
 esac
+
+# The files by their whole names, for the folder changes below.
+files=()
+for file in "$@"; do
+    [ -n "$file" ] || { echo "desk.sh: a file has an empty name" >&2; exit 2; }
+    [[ $file == /* ]] || file=$PWD/$file
+    files+=("$file")
+done
+[ $program = desk ] || [ ! -e "${files[1]}" ] || fail "${files[1]} is there already: an image is saved to a new file"
 
 # The crates that one stands on and that one, in the order in which rt proves them: by how many stand below each other.
 stands_on() {
@@ -69,15 +88,15 @@ mkdir -p target/log
 exec 9>target/desk.lock
 flock -n 9 || { tell "waiting for another desk.sh, which is proving"; flock 9; }
 touch target/seconds
-mapfile -t crates < <(stands_on desk)
+mapfile -t crates < <(stands_on $program)
 for name in "${crates[@]}"; do rm -f "target/log/$name.out"; done
-[ -x target/bin/desk ] || rm -f target/stamp/desk # rt goes by the stamp alone
+[ -x target/bin/$program ] || rm -f target/stamp/$program # rt goes by the stamp alone
 if [ -t 2 ]; then
     progress </dev/null >/dev/null 9>&- &
     watcher=$!
     trap 'kill "$watcher" 2>/dev/null' EXIT
 fi
-if ! rt check desk </dev/null >target/desk.log 2>&1; then
+if ! rt check $program </dev/null >target/desk.log 2>&1; then
     { grep -E '^\S+: error|^note: \S+:[0-9]+:|^rt: .*(NOT PROVED|FAILED)' target/desk.log || tail -n 5 target/desk.log; } | cut -c1-300 | sed -n 1,8p >&2
     fail "the desk is not proved; target/desk.log has all that rt said"
 fi
@@ -85,13 +104,19 @@ fi
 sed -nE 's/^rt: (\S+) proved \(([0-9]+) s\)$/\1 \2/p' target/desk.log >>target/seconds
 [ $SECONDS -lt 5 ] || tell "the desk is proved ($SECONDS s)"
 
-run=(target/bin/desk)
+run=(target/bin/$program)
 if [ "$(uname -m)" != x86_64 ]; then
     kit=$(rt doc)
     kit=${kit%/docs/*}/on/$(uname -m)/toolchain
     emulator=$kit/bin/qemu-x86_64
     [ -x "$emulator" ] || { tools/rust.sh emulator </dev/null >&2; emulator=qemu-x86_64; }
-    run=("$emulator" "$kit/lib/ld-linux-x86-64.so.2" --library-path "$kit/lib" target/bin/desk)
+    run=("$emulator" "$kit/lib/ld-linux-x86-64.so.2" --library-path "$kit/lib" target/bin/$program)
+fi
+if [ $program = snapshot ]; then
+    trap - EXIT
+    "${run[@]}" "${files[@]}" </dev/null 9>&-
+    [ -f "${files[1]}" ] || exit 1 # the program has said why
+    exit 0
 fi
 [ ! -t 0 ] || [ ! -t 2 ] || echo "The desk: S 2 2 4 2 0 1 sets up a register; docs/DESK.md has every line; Ctrl-D ends" >&2
-exec "${run[@]}" 9>&-
+exec "${run[@]}" "${files[@]}" 9>&-
