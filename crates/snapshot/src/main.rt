@@ -107,7 +107,8 @@ fn save_named(bytes: &[u8]) {
 // The image of a book is saved there, if something was set up.
 fn save_book(book: &[u32]) {
     let mut bytes = [0u8; IMAGE_BYTES];
-    if save(book, &mut bytes) == 0 {
+    let number = save(book, &mut bytes);
+    if number == 0 {
         save_named(&bytes);
         return;
     }
