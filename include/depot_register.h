@@ -3,9 +3,10 @@
  * A book is 16,384 words of 32 bits that you own and lend for the time of one call. docs/LAYOUT.md gives every word.
  * The library keeps nothing between calls, allocates nothing and calls nothing of yours.
  *
- * Every call on a book but depot_is_fit and depot_line answers with a number of the table below. A refusal, any number but
- * 0, changes no word of the book and of `out`. The calendar, at the end, needs no book and has a table of its own. One number
- * is for all: DEPOT_NO_ROOM, where `out` is too short for the answer. It is checked first of all.
+ * Every call on a book but depot_is_fit and depot_line answers with a number of the tables below. A refusal, any number but
+ * 0, changes no word of the book and of `out`; but what depot_recover answers is how recovery ended, and the book is then that
+ * after the records done. The calendar, at the end, needs no book and has a table of its own. One number is for all:
+ * DEPOT_NO_ROOM, where `out` is too short for the answer. It is checked first of all.
  *
  * A length that is wrong is an answer, not a crash. What C cannot tell is yours to keep: a pointer points to as many
  * elements as its length says (it may be null where the length is 0), and the buffers of one call do not overlap. The
