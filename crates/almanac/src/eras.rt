@@ -1,7 +1,7 @@
 // Another way to compute dates, with which the calendar is compared: eras of 400 years, years that begin in March, and divisions. It has no
 // table and no list of month lengths, and the leap rule only as quotients by 4, 100 and the era. The remainders by 400, 1,000 and powers of
 // ten cut nothing that the comparison asks; they show that no sum wraps.
-#[derive(Drop)]
+#[derive(Clone, Copy)]
 pub struct Civil {
     pub year: u64,
     pub month: u64,

@@ -6,7 +6,7 @@ mod eras;
 use crate::compare::{date_compared, day_compared, next_compared};
 
 // How many answers were dates, how many refusals of each number, and how many wrong.
-#[derive(Drop)]
+#[derive(Clone, Copy)]
 struct Tally {
     dates: u64,
     bad_date: u64,

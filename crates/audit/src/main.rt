@@ -8,7 +8,7 @@ use report::conclude::conclude;
 use report::say::ANSWER_ROOM;
 
 // What a piece of the input leaves: how many bytes it has, how many bytes of the line so far are kept, and how many lines have ended.
-#[derive(Drop)]
+#[derive(Clone, Copy)]
 struct Left {
     count: usize,
     kept: usize,

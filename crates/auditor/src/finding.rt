@@ -1,5 +1,5 @@
 // What the auditor finds. Entries are numbered from 0.
-#[derive(Drop)]
+#[derive(Clone, Copy)]
 pub enum Finding {
     // More than 256 entries.
     TooMany,

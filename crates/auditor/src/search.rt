@@ -13,7 +13,7 @@ use order::record::MOST_DEPOTS;
 use order::vector::is_zero;
 
 // What is looked for beside an entry: another write of its version; the write that it reads; a write in its past that it is lower than.
-#[derive(Drop)]
+#[derive(Clone, Copy)]
 pub enum Sought {
     Twin,
     Source,
@@ -21,7 +21,7 @@ pub enum Sought {
 }
 
 // What may be wrong with an entry: no history has it; it rests on itself; it is a read lower than a write in its past.
-#[derive(Drop)]
+#[derive(Clone, Copy)]
 pub enum Fault {
     Bad,
     Circle,

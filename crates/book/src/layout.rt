@@ -50,7 +50,7 @@ pub const COPY: u32 = 1;
 pub const BEAT: u32 = 2;
 
 // A link of a register: from one depot's shelf to the same shelf of another.
-#[derive(Drop)]
+#[derive(Clone, Copy)]
 pub struct Link(usize);
 
 impl Link {

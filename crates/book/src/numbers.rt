@@ -5,11 +5,11 @@ ghost use Rattle.std.specs.Prelude.{◌≡◌, ◌<◌, ltb};
 ghost use Rattle.loops.specs.Loops.{pick};
 
 // A depot of a register.
-#[derive(Drop)]
+#[derive(Clone, Copy)]
 pub struct Depot(usize);
 
 // A number that arrived, checked as a depot's.
-#[derive(Drop)]
+#[derive(Clone, Copy)]
 pub enum DepotCheck {
     Good(Depot),
     Bad,
@@ -44,11 +44,11 @@ impl Depot {
 }
 
 // A shelf of each depot.
-#[derive(Drop)]
+#[derive(Clone, Copy)]
 pub struct Shelf(usize);
 
 // A number that arrived, checked as a shelf's.
-#[derive(Drop)]
+#[derive(Clone, Copy)]
 pub enum ShelfCheck {
     Good(Shelf),
     Bad,
@@ -83,11 +83,11 @@ impl Shelf {
 }
 
 // A bearing.
-#[derive(Drop)]
+#[derive(Clone, Copy)]
 pub struct Bearing(usize);
 
 // A number that arrived, checked as a bearing's.
-#[derive(Drop)]
+#[derive(Clone, Copy)]
 pub enum BearingCheck {
     Good(Bearing),
     Bad,
@@ -122,11 +122,11 @@ impl Bearing {
 }
 
 // A crew.
-#[derive(Drop)]
+#[derive(Clone, Copy)]
 pub struct Crew(usize);
 
 // A number that arrived, checked as a crew's.
-#[derive(Drop)]
+#[derive(Clone, Copy)]
 pub enum CrewCheck {
     Good(Crew),
     Bad,

@@ -15,7 +15,7 @@ pub fn wide(word: u32) -> usize
 }
 
 // The four counts of a register.
-#[derive(Drop)]
+#[derive(Clone, Copy)]
 pub struct Counts {
     pub depots: usize,
     pub shelves: usize,

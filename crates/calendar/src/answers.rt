@@ -3,7 +3,7 @@ ghost use Rattle.std.specs.Prelude.{◌≡◌};
 ghost use Rattle.calendar.specs.Dates.{refusal_number};
 
 // A date; the months are numbered from 1 to 12.
-#[derive(Drop)]
+#[derive(Clone, Copy)]
 pub struct Date {
     pub year: u32,
     pub month: u32,
@@ -11,7 +11,7 @@ pub struct Date {
 }
 
 // Why there is no date, in the order in which it is looked for. A day number past 31 December 2399 is too late, too.
-#[derive(Drop)]
+#[derive(Clone, Copy)]
 pub enum DateRefusal {
     BadDate,
     BadStep,
@@ -20,7 +20,7 @@ pub enum DateRefusal {
 }
 
 // A refusal, or a date with its day number.
-#[derive(Drop)]
+#[derive(Clone, Copy)]
 pub enum DateAnswer {
     Refused(DateRefusal),
     On(Date, u32),

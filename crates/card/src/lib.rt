@@ -3,21 +3,21 @@
 ghost use Rattle.std.specs.Prelude.{◌≡◌};
 ghost use Rattle.card.specs.Card.{float_of, length_fit, card_fit, card_answer, word_of, grams_answer};
 
-#[derive(Drop)]
+#[derive(Clone, Copy)]
 pub struct Card {
     pub diameter: f32,
     pub width: f32,
 }
 
 // What two words are: a card, or none.
-#[derive(Drop)]
+#[derive(Clone, Copy)]
 pub enum CardCheck {
     Good(Card),
     Bad,
 }
 
 // The bits of the grams of a card, a 64-bit float; or that there is no such card.
-#[derive(Drop)]
+#[derive(Clone, Copy)]
 pub enum GramsAnswer {
     Of(u64),
     BadCard,

@@ -20,7 +20,7 @@ const BAD_LINE: u32 = 13;
 pub const RECORD_ROOM: usize = 82;
 
 // Places in two buffers: where the next answer stands, and where the next record.
-#[derive(Drop)]
+#[derive(Clone, Copy)]
 pub struct Places {
     pub out: usize,
     pub log: usize,

@@ -15,7 +15,7 @@ pub const FRONT: usize = 4;
 pub const OFFSET: usize = 2;
 
 // The link that a frame is for, and the counts of its register.
-#[derive(Drop)]
+#[derive(Clone, Copy)]
 pub struct Route {
     pub counts: Counts,
     pub shelf: Shelf,
@@ -24,7 +24,7 @@ pub struct Route {
 }
 
 // Why a frame was not written, or handed out nothing.
-#[derive(Drop)]
+#[derive(Clone, Copy)]
 pub enum FrameRefusal {
     // As a take is refused.
     Link(Refusal),
@@ -36,7 +36,7 @@ pub enum FrameRefusal {
 }
 
 // Done: how many bytes the frame has that was written, or how many messages were handed out.
-#[derive(Drop)]
+#[derive(Clone, Copy)]
 pub enum FrameAnswer {
     Done(usize),
     Refused(FrameRefusal),

@@ -15,7 +15,7 @@ pub const HISTORY_WORDS: usize = 2816;
 pub const KEPT_BYTES: usize = 112;
 
 // How many bytes of the line so far are kept, and how many lines have ended: 257 stands for more than 256.
-#[derive(Drop)]
+#[derive(Clone, Copy)]
 pub struct Place {
     pub kept: usize,
     pub lines: usize,

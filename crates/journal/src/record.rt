@@ -1,7 +1,7 @@
 // The records of a journal.
 
 // What a record's first byte names.
-#[derive(Drop)]
+#[derive(Clone, Copy)]
 pub enum Kind {
     Setup,
     Read,

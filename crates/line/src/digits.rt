@@ -7,7 +7,7 @@ const MOST_DIGITS: usize = 10;
 const MOST_NUMBER: u64 = 4_294_967_295;
 
 // What stands at a place of a text: a number, with the place after it, or none.
-#[derive(Drop)]
+#[derive(Clone, Copy)]
 pub enum Number {
     Bad,
     Good { value: u32, next: usize },

@@ -12,14 +12,14 @@ pub const MOST_BYTES: usize = 120;
 pub const MOST_NUMBERS: usize = 59;
 
 // Whether a line is bad, or the event that it names.
-#[derive(Drop)]
+#[derive(Clone, Copy)]
 pub enum Said {
     BadLine,
     Names(Event),
 }
 
 // What a line says: the event, its numbers, of which the first `count` count, and 0 after them.
-#[derive(Drop)]
+#[derive(Clone, Copy)]
 pub struct Line {
     pub said: Said,
     pub numbers: [u32; MOST_NUMBERS],

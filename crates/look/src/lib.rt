@@ -10,7 +10,7 @@ use order::record::{DIAMETER, ORIGIN, VECTOR, WIDTH};
 
 // What one look over a record's entries finds: the highest entry, the origin, and the stamp, which is the origin's entry, or 0 where the
 // origin is no depot.
-#[derive(Drop)]
+#[derive(Clone, Copy)]
 pub struct Found {
     pub highest: u32,
     pub origin: usize,

@@ -1,7 +1,7 @@
 // What a call answers. A definition in specs/Answers.antt gives the paper's number and values for each case.
 
 // Why a call was refused.
-#[derive(Drop)]
+#[derive(Clone, Copy)]
 pub enum Refusal {
     BadBook,
     BadDepot,
@@ -21,7 +21,7 @@ pub enum Refusal {
 }
 
 // The answer of a setup, a tick, a take, a refresh or a move.
-#[derive(Drop)]
+#[derive(Clone, Copy)]
 pub enum Answer {
     Done,
     Refused(Refusal),
@@ -31,7 +31,7 @@ pub enum Answer {
 pub const LAST_DAY: u32 = 146_096;
 
 // What is written of a bearing: the value, which is a day, and its card as two words, the bits of the outside diameter and of the width.
-#[derive(Drop)]
+#[derive(Clone, Copy)]
 pub struct Payload {
     pub value: u32,
     pub diameter: u32,
@@ -39,7 +39,7 @@ pub struct Payload {
 }
 
 // What a read finds: a value with its card, or that the bearing is unwritten.
-#[derive(Drop)]
+#[derive(Clone, Copy)]
 pub enum Finding {
     Value(Payload),
     Unwritten,
@@ -47,7 +47,7 @@ pub enum Finding {
 }
 
 // The answer of a read, with the version's vector beside it: its first `depots` entries count, and 0 stands elsewhere; if refused, none does.
-#[derive(Drop)]
+#[derive(Clone, Copy)]
 pub struct ReadAnswer {
     pub finding: Finding,
     pub vector: [u32; 4],
@@ -55,7 +55,7 @@ pub struct ReadAnswer {
 }
 
 // The answer of a write: its stamp, and whether the version is current or superseded.
-#[derive(Drop)]
+#[derive(Clone, Copy)]
 pub enum WriteAnswer {
     Current(u32),
     Superseded(u32),
@@ -64,7 +64,7 @@ pub enum WriteAnswer {
 
 // The answer of a list: eight words for each bearing, in list order, in room for eight bearings. They are 1 and the value with its card's two words, or 1's place and these 0 where
 // the bearing is unwritten; then room for the four entries of its vector, of which the first `depots` count. 0 stands elsewhere; if refused, everywhere.
-#[derive(Drop)]
+#[derive(Clone, Copy)]
 pub struct ListAnswer {
     pub outcome: Answer,
     pub bearings: usize,

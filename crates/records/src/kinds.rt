@@ -6,14 +6,14 @@ ghost use Rattle.records.specs.Kinds.{named_by, shape_by};
 use journal::record::Kind;
 
 // What a number names: a kind, or none.
-#[derive(Drop)]
+#[derive(Clone, Copy)]
 pub enum Named {
     Nothing,
     A(Kind),
 }
 
 // What stands behind a kind's byte: so many numbers; and, if a byte before them counts more, as many more.
-#[derive(Drop)]
+#[derive(Clone, Copy)]
 pub struct Shape {
     pub own: usize,
     pub counted: bool,

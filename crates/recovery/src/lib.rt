@@ -8,7 +8,7 @@ use replayer::{MOST_NUMBERS, next_record};
 
 // How many records were done, how many bytes they have, and how recovery ended: 0 behind a whole record, CUT inside one, BAD RECORD at a byte that is no kind, or the number with
 // which the next record's call is refused.
-#[derive(Drop)]
+#[derive(Clone, Copy)]
 pub struct Recovered {
     pub done: usize,
     pub bytes: usize,

@@ -7,21 +7,21 @@ use named_call::base_fits;
 use paper::answer::Refusal;
 
 // A depot and a shelf that a call names.
-#[derive(Drop)]
+#[derive(Clone, Copy)]
 pub enum PlaceCheck {
     Good(Depot, Shelf),
     Bad(Refusal),
 }
 
 // A crew and a bearing that a call names.
-#[derive(Drop)]
+#[derive(Clone, Copy)]
 pub enum AskCheck {
     Good(Crew, Bearing),
     Bad(Refusal),
 }
 
 // A depot, a shelf and the depot that a message comes from.
-#[derive(Drop)]
+#[derive(Clone, Copy)]
 pub enum LinkCheck {
     Good(Depot, Shelf, Depot),
     Bad(Refusal),

@@ -1,7 +1,7 @@
 // The version that a write makes.
 use card::Card;
 
-#[derive(Drop)]
+#[derive(Clone, Copy)]
 pub struct Version {
     pub bearing: u32,
     pub value: u32,

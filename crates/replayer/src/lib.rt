@@ -22,14 +22,14 @@ pub const CUT: u32 = 111;
 pub const MOST_NUMBERS: usize = 259;
 
 // What the next record came to: how recovery ends there, 0 if it goes on; and how many bytes the record has.
-#[derive(Drop)]
+#[derive(Clone, Copy)]
 pub struct Next {
     pub end: u32,
     pub size: usize,
 }
 
 // How many bytes come before a record's numbers, and how many numbers it has.
-#[derive(Drop)]
+#[derive(Clone, Copy)]
 struct Extent {
     head: usize,
     numbers: usize,

@@ -10,7 +10,7 @@ use auditor::finding::Finding;
 use entries::beside::{ENTRY_WORDS, MOST_ENTRIES};
 use history::entry::BAD;
 
-#[derive(Drop)]
+#[derive(Clone, Copy)]
 pub enum Said {
     // The first line that says no entry. Lines are numbered from 0.
     BadLine(u32),

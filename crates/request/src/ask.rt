@@ -5,7 +5,7 @@ ghost use Rattle.request.specs.Requests.{request_in, own_numbers, beside_in};
 use paper::answer::Payload;
 
 // The kinds of request that a line can make, as its letter names them. A move is none: the lines are closed.
-#[derive(Drop)]
+#[derive(Clone, Copy)]
 pub enum Event {
     Setup,
     Read,
@@ -17,7 +17,7 @@ pub enum Event {
 }
 
 // A request with its numbers. The homes of a setup and the bearings of a list stand beside it.
-#[derive(Drop)]
+#[derive(Clone, Copy)]
 pub enum Request {
     Setup {
         depots: u32,

@@ -7,7 +7,7 @@ use paper::answer::{Payload, Refusal};
 use paper::number::number_of;
 
 // What any request comes to.
-#[derive(Drop)]
+#[derive(Clone, Copy)]
 pub enum Outcome {
     Done,
     Value(Payload),
@@ -20,7 +20,7 @@ pub enum Outcome {
 
 // The reply to any request. The vector beside it is a read's, and the words are a list's, eight for each of its bearings; the first `depots` entries count, of the vector and of each
 // bearing. Of any other reply nothing counts, and all is 0.
-#[derive(Drop)]
+#[derive(Clone, Copy)]
 pub struct Reply {
     pub outcome: Outcome,
     pub vector: [u32; 4],

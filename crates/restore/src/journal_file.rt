@@ -16,7 +16,7 @@ const TOLD_BYTES: usize = 16777216;
 
 // What has come of a journal so far: how many records were done, how many bytes they have, how many bytes were read behind those, how recovery ended, whether there may be more to read, and
 // whether the file could be read.
-#[derive(Drop)]
+#[derive(Clone, Copy)]
 pub struct Restored {
     pub done: usize,
     pub bytes: usize,

@@ -66,7 +66,7 @@ fn keep_records(journal: i32, records: &[u8]) -> bool {
 }
 
 // How many bytes were read, and whether their answers were given.
-#[derive(Drop)]
+#[derive(Clone, Copy)]
 struct Told {
     count: usize,
     given: bool,

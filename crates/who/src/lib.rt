@@ -15,7 +15,7 @@ use paper::answer::Refusal;
 use versions::version::stored_fits;
 
 // Which depots have it: bit d of the mask for depot d, and how many bits are set.
-#[derive(Drop)]
+#[derive(Clone, Copy)]
 pub enum WhoAnswer {
     Has { mask: u32, count: u32 },
     Refused(Refusal),
