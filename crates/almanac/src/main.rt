@@ -1,5 +1,7 @@
 // Compares the calendar with another way to compute dates: on all 146,097 days, on all dates and what is next to them, and on anchors of
 // every day of the month with a spread of steps and counts. Writes how many of each were asked, what was answered, and how many were wrong.
+#![tactic(auto)]
+
 mod compare;
 mod eras;
 

@@ -1,4 +1,6 @@
 // The auditor as a program: the lines of a history from standard input, one answer line to standard output.
+#![tactic(auto)]
+
 ghost use Rattle.std.specs.Prelude.{◌≡◌, take};
 ghost use Rattle.history.specs.Stream.{Fits, Seen, state, through};
 

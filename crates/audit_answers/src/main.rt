@@ -1,5 +1,7 @@
 // A small history for each answer of the auditor, in the order of docs/AUDIT.md, and what decides between two answers. What is printed is kept in the
 // file `stdout`.
+#![tactic(auto)]
+
 use history::stream::{HISTORY_WORDS, KEPT_BYTES, feed};
 use libc::STDOUT_FILENO;
 use report::conclude::conclude;

@@ -1,3 +1,5 @@
 // One dispatcher: from a request with its numbers to the reply and the book.
+#![tactic(auto)]
+
 pub mod perform;
 pub mod reply;

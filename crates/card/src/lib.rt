@@ -1,5 +1,7 @@
 // A card: a bearing's outside diameter and width in millimetres. A record keeps it as two words, the bits of the two floats. No public function
 // asks anything of its caller.
+#![tactic(auto)]
+
 ghost use Rattle.std.specs.Prelude.{◌≡◌};
 ghost use Rattle.card.specs.Card.{float_of, length_fit, card_fit, card_answer, word_of, grams_answer};
 

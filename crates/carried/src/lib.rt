@@ -1,1 +1,3 @@
 // Nothing lost on a link, at work: statements and proofs alone.
+
+#![tactic(auto)]

@@ -1,4 +1,6 @@
 // The worked cases (a) to (i) of the paper's "Entries on both sides", and those of later requests, each run and compared. A script has lines of the desk, each with its answer after it.
+#![tactic(auto)]
+
 pub mod lists;
 
 ghost use Rattle.std.specs.Prelude.{◌≡◌, ◌≤◌, length};

@@ -1,5 +1,7 @@
 // The calendar in numbers: each function asks the calendar one question, puts the answer into a buffer and gives its number. A buffer that is too short is
 // refused first of all.
+#![tactic(auto)]
+
 ghost use Rattle.std.specs.Prelude.{◌≡◌};
 ghost use Rattle.calendar.specs.Dates.{day_number_answer, date_answer};
 ghost use Rattle.calendar.specs.Next.{next_answer};

@@ -1,5 +1,7 @@
 // The desk: lines from standard input, one answer line for each to standard output. With a file it keeps its register there, with a second the register goes on from an image. It is run on the
 // listing.
+#![tactic(auto)]
+
 use keeper::{keep, keep_from_image};
 use restore::tell::tell;
 use serve::serve;

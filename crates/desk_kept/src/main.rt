@@ -1,4 +1,6 @@
 // The desk on a journal with ten records and a torn one behind them, those of the listing: what was read last is asked again.
+#![tactic(auto)]
+
 use keeper::keep;
 
 fn main() {

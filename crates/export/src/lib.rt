@@ -1,4 +1,6 @@
 // The register as C calls it: each function makes one call and gives the number of its answer. include/depot_register.h declares them.
+#![tactic(auto)]
+
 pub mod audit;
 pub mod days;
 pub mod frames;

@@ -1,4 +1,6 @@
 // What the writer and the reader of frames share: the link, the size of a message, the first byte, and what they answer.
+#![tactic(auto)]
+
 ghost use Rattle.std.specs.Prelude.{◌≡◌, ◌≤◌, ◌<◌};
 ghost use Rattle.order.specs.Record.{most_depots};
 ghost use Rattle.frame.specs.Frame.{size_of, whom};

@@ -1,4 +1,6 @@
 // The bytes of a frame: how many they are, and each where it stands.
+#![tactic(auto)]
+
 ghost use Rattle.std.specs.Prelude.{◌≡◌, ◌+◌, ◌*◌, ◌≤◌, ◌<◌, length};
 ghost use Rattle.order.specs.Record.{most_depots};
 ghost use Rattle.book.specs.Words.{put};

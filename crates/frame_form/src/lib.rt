@@ -1,4 +1,6 @@
 // Whether bytes are a frame of a link, and the messages that stand in them.
+#![tactic(auto)]
+
 ghost use Rattle.std.specs.Prelude.{◌≡◌, ◌&&◌, ◌+◌, ◌*◌, ◌≤◌, ◌<◌, eqb, length};
 ghost use Rattle.order.specs.Record.{most_depots};
 ghost use Rattle.frame.specs.Frame.{offset_at, body_at, count_in, start_in, entry_at, copy_at, message_at, message_right, head_right, messages_right, formed};

@@ -1,4 +1,6 @@
 // A frame is read: its form, its serial; and what it carries is handed out. The book is only read, and `read_frame` asks nothing of its caller.
+#![tactic(auto)]
+
 ghost use Rattle.std.specs.Prelude.{◌≡◌, ◌*◌, ◌<◌, ◌≤◌, true, length};
 ghost use Rattle.paper.specs.Calls.{first};
 ghost use Rattle.book.specs.Words.{put};

@@ -1,4 +1,6 @@
 // The writer and the reader of frames for a caller who gets numbers: the number of the answer comes back, and where it is 0, what is told stands in a word.
+#![tactic(auto)]
+
 ghost use Rattle.std.specs.Prelude.{◌≡◌};
 ghost use Rattle.frame.specs.Promises.{frame_number};
 ghost use Rattle.frame_told.specs.Told.{WrittenTold, ReadTold};

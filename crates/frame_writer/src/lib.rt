@@ -1,4 +1,6 @@
 // A frame is written: the checks, then the oldest untaken messages of a link. The book is only read, and `write_frame` asks nothing of its caller.
+#![tactic(auto)]
+
 ghost use Rattle.std.specs.Prelude.{◌≡◌, true, not, ◌≤◌, ◌<◌, length};
 ghost use Rattle.order.specs.Record.{most_depots};
 ghost use Rattle.book.specs.Layout.{book_words, links, counts_of};

@@ -1,5 +1,7 @@
 // Who has it, in numbers: asks `who_has`, puts the mask and the count into a buffer and gives the answer's number. A buffer that is too short is refused first
 // of all.
+#![tactic(auto)]
+
 ghost use Rattle.std.specs.Prelude.{◌≡◌};
 ghost use Rattle.room.specs.Room.{no_room, in_room};
 ghost use Rattle.who.specs.Who.{who_told};

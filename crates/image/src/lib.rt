@@ -1,4 +1,6 @@
 // Images of a book: eight numbers of header, then its words. docs/JOURNAL.md tells their bytes. `save` and `load` ask nothing of their caller.
+#![tactic(auto)]
+
 ghost use Rattle.std.specs.Prelude.{◌≡◌, length};
 ghost use Rattle.book.specs.Layout.{book_words};
 ghost use Rattle.numbers.specs.Numbers.{words_at};

@@ -1,4 +1,6 @@
 // What the auditor finds, as one number, for callers in other languages.
+#![tactic(auto)]
+
 ghost use Rattle.std.specs.Prelude.{◌≡◌, ◌<◌};
 ghost use Rattle.entries.specs.Entries.{most_entries};
 ghost use Rattle.judged.specs.Number.{entry_of, number_of, Audited};

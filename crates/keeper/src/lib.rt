@@ -2,6 +2,8 @@
 //
 // What the system does with files stands outside the promise: `keep_at`, `open_journal` and `is_ready` are to be read. Promised is that the desk begins with a book that a journal goes on
 // from, after some requests.
+#![tactic(auto)]
+
 ghost use Rattle.stream.specs.Stream.{Began};
 
 use book::layout::BOOK_WORDS;

@@ -1,5 +1,7 @@
 // What a list tells in numbers: its number comes back, and what it tells of each bearing stands in a buffer. A buffer that is too short is refused first of all, before the
 // book is looked at.
+#![tactic(auto)]
+
 ghost use Rattle.std.specs.Prelude.{◌≡◌};
 ghost use Rattle.paper.specs.Calls.{list};
 ghost use Rattle.upkeep.specs.Requests.{call, number_at, reply_to, book_after};

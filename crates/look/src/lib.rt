@@ -1,4 +1,6 @@
 // One look over a version record: its highest entry, its origin and its stamp; and whether it holds a card.
+#![tactic(auto)]
+
 ghost use Rattle.std.specs.Prelude.{◌≡◌, ◌≤◌, max, length};
 ghost use Rattle.order.specs.Record.{most_depots, record_words, diameter_of, width_of, origin_of, vector_of};
 ghost use Rattle.card.specs.Card.{card_fit};

@@ -1,4 +1,6 @@
 // The lowest stamp seen from each other depot, over all shelves of a depot, in one pass.
+#![tactic(auto)]
+
 ghost use Rattle.std.specs.Prelude.{◌≡◌, ◌&&◌, not, ◌≤◌, ◌<◌, min, eqb, ltb, length};
 ghost use Rattle.loops.specs.Loops.{pick};
 ghost use Rattle.order.specs.Record.{most_depots};

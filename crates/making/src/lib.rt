@@ -1,5 +1,7 @@
 // The version that a write makes: raise and show, the crew is stamped, and the version is stored if greater than what is there and sent on every link out of the shelf.
 // Whether it may be made is for the caller to have checked.
+#![tactic(auto)]
+
 ghost use Rattle.std.specs.Prelude.{◌≡◌, ◌∷◌, ◌+◌, ◌<◌, ◌≤◌, length, set};
 ghost use Rattle.order.specs.Order.{above};
 ghost use Rattle.order.specs.Record.{most_depots, record_words, bearing_of, rank_of};

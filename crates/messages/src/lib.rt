@@ -1,4 +1,6 @@
 // Messages and links: whether a message is one that a link may carry, and whether the head and all messages of a link are fit.
+#![tactic(auto)]
+
 ghost use Rattle.std.specs.Prelude.{◌≡◌, ◌+◌, ◌≤◌, ◌<◌, length};
 ghost use Rattle.loops.specs.Loops.{every};
 ghost use Rattle.order.specs.Record.{most_depots};

@@ -1,4 +1,6 @@
 // One moment at a depot: what its shelves offer together, every shelf raised with it and shown, and of each bearing of a list what is told and merged into the crew's vector.
+#![tactic(auto)]
+
 ghost use Rattle.std.specs.Prelude.{◌≡◌, true, map, ℕ, ◌+◌, ◌≤◌, ◌<◌, length, replicate};
 ghost use Rattle.order.specs.Record.{most_depots, record_words, vector_of};
 ghost use Rattle.order.specs.Vector.{vector_in, merged_at};

@@ -1,4 +1,6 @@
 // How many days a month has.
+#![tactic(auto)]
+
 pub mod starts;
 
 ghost use Rattle.std.specs.Prelude.{◌≡◌};

@@ -1,4 +1,6 @@
 // Whether the parts are fit that every call names, and those of a read, a write, a refresh, a move and a list.
+#![tactic(auto)]
+
 ghost use Rattle.std.specs.Prelude.{◌≡◌, true, ◌&&◌, ◌<◌, length, get_or};
 ghost use Rattle.loops.specs.Loops.{every};
 ghost use Rattle.order.specs.Record.{most_depots};

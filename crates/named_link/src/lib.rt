@@ -1,4 +1,6 @@
 // Whether the parts are fit that a tick and a take name: the clock and the heads of the links out, or the stamp seen and what waits on a link in.
+#![tactic(auto)]
+
 ghost use Rattle.std.specs.Prelude.{◌≡◌, ◌||◌, ◌<◌, eqb, length};
 ghost use Rattle.order.specs.Record.{most_depots};
 ghost use Rattle.book.specs.Layout.{book_words, most_shelves, link_of};

@@ -1,4 +1,6 @@
 // Whether the parts are fit that raise and show touches at a shelf: its stable vector, the links that arrive, and the places of what was taken from them.
+#![tactic(auto)]
+
 ghost use Rattle.std.specs.Prelude.{◌≡◌, ◌||◌, ℕ, ◌≤◌, ◌<◌, eqb, length};
 ghost use Rattle.loops.specs.Loops.{every};
 ghost use Rattle.order.specs.Record.{most_depots, bearing_of};

@@ -1,4 +1,6 @@
 // Lists of numbers as bytes, four of them each, the lowest first.
+#![tactic(auto)]
+
 ghost use Rattle.std.specs.Prelude.{◌≡◌, ◌+◌, ◌*◌, ◌≤◌, length};
 ghost use Rattle.book.specs.Words.{put};
 ghost use Rattle.numbers.specs.Numbers.{bytes_of, words_at};

@@ -1,5 +1,7 @@
 // List: a foreman reads one to eight bearings at one moment. Every home shelf is raised with the maximum of the crew's vector and their stable vectors, and shown; then all are
 // read, and the crew's vector becomes the entrywise maximum with every answer.
+#![tactic(auto)]
+
 ghost use Rattle.std.specs.Prelude.{◌≡◌, true, ◌<◌, replicate};
 ghost use Rattle.paper.specs.declared.answer.Answer as answer;
 ghost use Rattle.book.specs.Layout.{counts_of};

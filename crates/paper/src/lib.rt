@@ -1,3 +1,5 @@
 // The paper: what a call on a register answers, as docs/DESK.md tells.
+#![tactic(auto)]
+
 pub mod answer;
 pub mod number;

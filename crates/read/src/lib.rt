@@ -1,5 +1,7 @@
 // Read: raise and show with the crew's vector at the home shelf; answer the stored value and its card, or that it is unwritten, with its vector; the crew's vector
 // becomes the entrywise maximum with it.
+#![tactic(auto)]
+
 ghost use Rattle.std.specs.Prelude.{◌≡◌, true, [], ◌∷◌, ◌<◌, ◌≤◌, length};
 ghost use Rattle.order.specs.Record.{most_depots, record_words, vector_of};
 ghost use Rattle.paper.specs.Calls.{reads};

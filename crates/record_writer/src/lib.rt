@@ -1,4 +1,6 @@
 // The record of a request: how many bytes it has, and how it is written. docs/JOURNAL.md tells them.
+#![tactic(auto)]
+
 ghost use Rattle.std.specs.Prelude.{◌≡◌, ◌∷◌, ◌++◌, ◌+◌, ◌*◌, ◌≤◌, ◌<◌, length};
 ghost use Rattle.book.specs.Words.{put};
 ghost use Rattle.wire.specs.Wire.{byte_limit, Below};

@@ -1,4 +1,6 @@
 // A call made together with its record. docs/JOURNAL.md tells the outcomes. `recorded` asks nothing of its caller.
+#![tactic(auto)]
+
 pub mod answer;
 
 ghost use Rattle.std.specs.Prelude.{◌+◌, ◌≤◌, length};

@@ -1,5 +1,7 @@
 // A call made together with its record, for a caller who gets numbers: its number comes back, the record stands in a buffer of bytes, and what is told in one of words. Words too few to
 // tell in are refused first of all.
+#![tactic(auto)]
+
 ghost use Rattle.std.specs.Prelude.{◌≡◌, ◌∷◌, ◌≤◌, length};
 ghost use Rattle.book.specs.Words.{put};
 ghost use Rattle.request.specs.Replies.{on_paper, Carries};

@@ -1,4 +1,6 @@
 // Recovery: the records of a journal are replayed one after the other. docs/JOURNAL.md tells what comes of them. `recover` asks nothing of its caller.
+#![tactic(auto)]
+
 ghost use Rattle.std.specs.Prelude.{◌≡◌, ◌+◌, ◌≤◌, length, take, drop};
 ghost use Rattle.book.specs.Words.{part, put};
 ghost use Rattle.replayer.specs.Turn.{most_numbers};

@@ -1,5 +1,7 @@
 // Recovery for a caller who gets numbers: how it ended comes back, and how many records were done and how many bytes they have stand in a buffer. A buffer that is too short is refused
 // first of all.
+#![tactic(auto)]
+
 ghost use Rattle.std.specs.Prelude.{◌≡◌};
 ghost use Rattle.recovery_told.specs.Told.{left, left_by};
 

@@ -1,4 +1,6 @@
 // Refresh: raise and show with, for each other depot, the lowest stamp seen over all shelves here.
+#![tactic(auto)]
+
 ghost use Rattle.std.specs.Prelude.{◌≡◌, true, ◌<◌};
 ghost use Rattle.book.specs.Layout.{counts_of};
 ghost use Rattle.named.specs.Named.{base_fit};

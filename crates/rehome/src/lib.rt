@@ -1,4 +1,6 @@
 // Move: a crew gets a new home, where every shelf has seen what the crew has.
+#![tactic(auto)]
+
 ghost use Rattle.std.specs.Prelude.{◌≡◌, true, ◌||◌, ◌<◌, eqb, length, set};
 ghost use Rattle.order.specs.Record.{most_depots};
 ghost use Rattle.book.specs.Layout.{book_words, most_crews, home_at, counts_of, home};

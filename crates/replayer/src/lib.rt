@@ -1,4 +1,6 @@
 // The next record of a journal: whether it is all there, and its call, which is made. docs/JOURNAL.md tells what comes of it.
+#![tactic(auto)]
+
 ghost use Rattle.std.specs.Prelude.{◌≡◌, ◌≤◌, ◌<◌, length, get_or};
 ghost use Rattle.upkeep.specs.Requests.{number_at, book_after};
 ghost use Rattle.journal.specs.Record.{head_size, numbers_in, request_by};

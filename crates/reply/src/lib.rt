@@ -1,4 +1,6 @@
 // A reply to the byte, without the line feed, into an output that is lent: what is printed is a function of the reply alone.
+#![tactic(auto)]
+
 pub mod page;
 
 ghost use Rattle.std.specs.Prelude.{◌+◌, ◌≤◌, length};

@@ -1,4 +1,6 @@
 // A caller's buffer for an answer: the number that refuses one that is too short, and the words of an answer at its start.
+#![tactic(auto)]
+
 ghost use Rattle.std.specs.Prelude.{◌≡◌};
 ghost use Rattle.room.specs.Room.{filled};
 

@@ -1,4 +1,6 @@
 // Weighs some cards: writes the two words of each and the bits of its grams, or that it is no card. What is printed is kept in the file `stdout`.
+#![tactic(auto)]
+
 use card::{GramsAnswer, grams};
 use libc::STDOUT_FILENO;
 

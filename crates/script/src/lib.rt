@@ -1,4 +1,6 @@
 // A script: lines of the desk, each with the answer that it must get on the line after it. It is run on a book, and every answer compared.
+#![tactic(auto)]
+
 ghost use Rattle.std.specs.Prelude.{◌≡◌, ◌+◌, ◌<◌, ◌≤◌, length, get_or, drop};
 ghost use Rattle.events.specs.Answering.{answer_to, book_after_line};
 ghost use Rattle.reply.specs.Printed.{answer_room};

@@ -2,6 +2,8 @@
 // more comes. The loop keeps nothing: the book, and the line so far with its length, stand in the buffers that it lends. No contract can say what the system's calls do, so
 // that the pieces are those of the input, in order, that the records stand in the journal before the answers reach the output, and both in order, stands outside the promise:
 // `turn` and `keep_records` are to be read.
+#![tactic(auto)]
+
 ghost use Rattle.std.specs.Prelude.{◌≡◌, ◌+◌, ◌*◌, ◌≤◌, length, take};
 ghost use Rattle.reply.specs.Printed.{answer_room};
 ghost use Rattle.events.specs.Answering.{record_room};

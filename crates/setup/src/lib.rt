@@ -1,4 +1,6 @@
 // Setup: four counts and a list of homes make a fresh register.
+#![tactic(auto)]
+
 ghost use Rattle.std.specs.Prelude.{◌≡◌, ◌≤◌, ltb, length, get_or};
 ghost use Rattle.loops.specs.Loops.{every};
 ghost use Rattle.book.specs.Layout.{book_words, most_crews};

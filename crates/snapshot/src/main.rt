@@ -1,5 +1,7 @@
 // An image of a journal's register, saved to a new file: snapshot JOURNAL NEW_IMAGE [IMAGE]. Where the journal goes on from an image, that is the third. The journal is only read. The image gets its
 // name when it is all there and on the disk; until then it lies beside, under that name with a `~` behind it.
+#![tactic(auto)]
+
 ghost use Rattle.io.specs.Counts.{IsPrefixLen};
 ghost use Rattle.stream.specs.Stream.{Began};
 

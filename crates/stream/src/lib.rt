@@ -1,5 +1,7 @@
 // The desk's input as it arrives: any bytes, in pieces cut anywhere. The line so far is kept in a buffer that is lent, its length in the last byte. Answers and
 // records stand in two buffers that are lent, each from the first byte on.
+#![tactic(auto)]
+
 ghost use Rattle.std.specs.Prelude.{◌≡◌, [], ◌+◌, ◌*◌, ◌≤◌, length};
 ghost use Rattle.line.specs.Printing.{Wrote};
 ghost use Rattle.reply.specs.Printed.{answer_room};

@@ -1,4 +1,6 @@
 // Taking: the first untaken message of a link, its stamp, and what becomes of it.
+#![tactic(auto)]
+
 ghost use Rattle.std.specs.Prelude.{◌≡◌, ◌+◌, ◌-◌, ◌≤◌, ◌<◌, eqb, length, set};
 ghost use Rattle.loops.specs.Loops.{pick};
 ghost use Rattle.order.specs.Record.{most_depots};

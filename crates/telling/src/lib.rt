@@ -1,5 +1,7 @@
 // What a call tells in numbers: its number comes back, and what a read, a write or the grams tell stands in a buffer. A buffer that is too short is refused first of
 // all, before the book is looked at.
+#![tactic(auto)]
+
 ghost use Rattle.std.specs.Prelude.{◌≡◌, ◌/◌, ◌%◌};
 ghost use Rattle.paper.specs.Calls.{read, write, number_in};
 ghost use Rattle.paper.specs.Answers.{paper_read, paper_write, Holds};

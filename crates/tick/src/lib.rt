@@ -1,4 +1,6 @@
 // Tick: the clock moves on by one; a heartbeat with it goes on every link out.
+#![tactic(auto)]
+
 ghost use Rattle.std.specs.Prelude.{◌≡◌, true, ◌<◌};
 ghost use Rattle.book.specs.Layout.{counts_of};
 ghost use Rattle.named.specs.Named.{base_fit};

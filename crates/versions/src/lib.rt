@@ -1,2 +1,4 @@
 // Whether versions are fit: stored, and carried by a link.
+#![tactic(auto)]
+
 pub mod version;

@@ -1,4 +1,6 @@
 // Who has it: of a bearing, the depots that now store a depot's present version or a greater one. Looking changes no word of the book.
+#![tactic(auto)]
+
 ghost use Rattle.std.specs.Prelude.{◌≡◌, ◌+◌, ◌*◌, ◌^◌, ◌≤◌, ◌<◌, length};
 ghost use Rattle.loops.specs.Loops.{pick};
 ghost use Rattle.order.specs.Record.{most_depots};

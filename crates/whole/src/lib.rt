@@ -1,4 +1,6 @@
 // The whole book, part after part.
+#![tactic(auto)]
+
 ghost use Rattle.std.specs.Prelude.{◌≡◌, ◌||◌, ◌<◌, eqb, length};
 ghost use Rattle.loops.specs.Loops.{every};
 ghost use Rattle.order.specs.Record.{most_depots};

@@ -1,4 +1,6 @@
 // Bytes: words of 32 bits as four of them, halves of 16 bits as two, the lowest first.
+#![tactic(auto)]
+
 ghost use Rattle.std.specs.Prelude.{◌≡◌, ◌+◌, ◌*◌, ◌%◌, ◌≤◌, length};
 ghost use Rattle.book.specs.Words.{put};
 ghost use Rattle.wire.specs.Wire.{half_bytes, half_at, word_bytes, word_of, word_at};

@@ -1,4 +1,6 @@
 // Write: the checks, in the order of the paper's table; then the version is made, stored if greater and sent.
+#![tactic(auto)]
+
 ghost use Rattle.std.specs.Prelude.{◌≡◌, true, ◌<◌};
 ghost use Rattle.book.specs.Layout.{counts_of};
 ghost use Rattle.named.specs.Named.{base_fit};

@@ -1,8 +1,0 @@
--- `book::numbers::Depot::checked` meets its contract: the choice that the test makes.
--- Assumes nothing.
-use Rattle.book.proofs.Chosen.{below, not_below}
-use Rattle.book.proofs.numbers.Depot.checked.Statement.{statement}
-use Rattle.book.proofs.numbers.Depot.checked.Tie as tie
-
-pub checked-spec : {M : Type 1} → statement M
-checked-spec = tie.close (tie.spec (λ c. below _ _ c.if1.true) (λ c. not_below _ _ c.if1.false))

@@ -1,0 +1,19 @@
+-- `calls::reply::listed` meets its contract: what is told of each bearing, or the refusal.
+-- Assumes nothing.
+use mathlib.Core.Path.{refl, sym, ap}
+use Rattle.paper.specs.Answers.{told_all, paper_listed, paper_list}
+use Rattle.paper.specs.declared.answer.Answer as plain
+use Rattle.request.specs.Replies.{paper_outcome}
+use Rattle.calls.proofs.ReplyLaws.{bare_reply, list_reply}
+use borrow.Author.Rules.{rules}
+use Rattle.calls.proofs.reply.listed.Goals as goal
+
+pub returns-in-Done : goal.returns-in-Done
+returns-in-Done c = list_reply _ c.in-Done.is refl
+
+pub returns-in-Refused : goal.returns-in-Refused
+unfolding paper_outcome paper_listed paper_list
+returns-in-Refused c =
+    let a = c.args.answer in
+    let r = bare_reply _ c.bare.ensures (sym (ap (λ (o : plain.Answer). paper_listed o (told_all a.depots a.bearings a.words)) c.in-Refused.is)) in
+    (r.0, λ h. r.1)

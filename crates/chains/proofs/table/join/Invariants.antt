@@ -1,0 +1,13 @@
+-- What the loop keeps, and what falls. Answers.antt has the idea.
+-- Assumes nothing.
+use Prim.Native.Nat.{◌≤◌, ◌-◌}
+use borrow.Author.Rules.{rules}
+use Rattle.chains.specs.Table.{bit, Adds, joins, turns}
+use Rattle.chains.proofs.TableLaws.{turns_none, turns_joined, turns_done}
+use Rattle.chains.proofs.table.join.Given as goal
+
+abbrev pub invariant-loop-p : goal.invariant-loop-p
+invariant-loop-p l = (l.p ≤ l.words) × Adds l.initial.table (turns l.p (joins (bit l.initial.table) l.k)) l.table
+
+abbrev pub decreases-loop-p : goal.decreases-loop-p
+decreases-loop-p l = l.words - l.p

@@ -1,0 +1,14 @@
+-- What the loop keeps, and what falls. Answers.antt has the idea.
+-- Assumes nothing.
+use Prim.Native.Nat.{◌≤◌, ◌-◌}
+use borrow.Author.Rules.{rules}
+use Rattle.entries.specs.Rests.{rests_on}
+use Rattle.chains.specs.Table.{Adds, turns, direct}
+use Rattle.chains.proofs.TableLaws.{turns_none, turns_more, turns_done}
+use Rattle.entries.proofs.past.mark_all.Given as goal
+
+abbrev pub invariant-loop-i : goal.invariant-loop-i
+invariant-loop-i l = (l.i ≤ l.n) × Adds l.initial.past (turns l.i (λ x. turns l.n (direct (rests_on l.h) x))) l.past
+
+abbrev pub decreases-loop-i : goal.decreases-loop-i
+decreases-loop-i l = l.n - l.i

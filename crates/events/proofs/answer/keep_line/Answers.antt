@@ -1,0 +1,25 @@
+-- `events::answer::keep_line` meets its contract: the answer, the line feed after it, and the record beside it.
+-- Assumes nothing.
+use native.Mathlib.Omega.{arith}
+use Rattle.line.specs.Reading.{reading}
+use Rattle.line.proofs.PrintLaws.{wrote_byte, wrote_then, wrote_length}
+use Rattle.events.specs.Answering.{book_after_line, answer_to, record_to, done_by}
+use Rattle.events.proofs.SayLaws.{reading_length}
+use borrow.Author.Rules.{rules}
+use Rattle.events.proofs.answer.keep_line.Goals as goal
+
+pub bounds-out-last : goal.bounds-out-last
+bounds-out-last c =
+    let w = c.say_line-end.ensures.1.0 in
+    let h = reading_length c.args.book.now (reading c.args.line.now) in
+    let k = wrote_length w in
+    omega (arith, w.after, c.requires.0)
+
+pub overflow_add-result : goal.overflow_add-result
+overflow_add-result c = let h = slice-write-out c in search rules
+
+pub returns : goal.returns
+unfolding book_after_line answer_to record_to done_by
+returns c =
+    let said = c.say_line-end.ensures in
+    (said.0, (wrote_then said.1.0 (wrote_byte _ _ 10), said.1.1))

@@ -1,0 +1,43 @@
+-- `events::answer::say_line` meets its contract: the reader says which event, and with which numbers.
+-- Assumes nothing.
+use native.Mathlib.Omega.{arith}
+use mathlib.Core.Path.{refl}
+use Rattle.paper.specs.Calls.{refused}
+use Rattle.paper.specs.Answers.{entries_in, tellings}
+use Rattle.journal.specs.Journal.{journal}
+use Rattle.line.proofs.PrintLaws.{wrote_nothing}
+use Rattle.line.proofs.Theorems.{says_read}
+use Rattle.reply.specs.Printed.{printed}
+use Rattle.reply.proofs.RoomLaws.{no_list, printed_room}
+use Rattle.events.specs.Answering.{reading_book, reading_says, reading_done}
+use Rattle.events.proofs.SayLaws.{told_bad, told_event, told_count, told_room_law, told_part, kept_reading}
+use borrow.Author.Rules.{rules}
+use Rattle.events.proofs.answer.say_line.Goals as goal
+
+pub answer_number-requires : goal.answer_number-requires
+unfolding printed entries_in tellings
+answer_number-requires c = printed_room (refused 13) (no_list _ (omega arith) refl) c.requires.0
+
+pub slice_bounds-numbers-end : goal.slice_bounds-numbers-end
+slice_bounds-numbers-end c =
+    let told = c.read_line-told.ensures in
+    let h = told_count _ told in
+    let k = told_room_law _ told in
+    omega arith
+
+pub slice_bounds-run_event-end : goal.slice_bounds-run_event-end
+slice_bounds-run_event-end c = told_part _ c.read_line-told.ensures
+
+pub returns-in-BadLine : goal.returns-in-BadLine
+unfolding reading_book reading_says reading_done journal
+returns-in-BadLine c =
+    kept_reading _ (told_bad _ c.read_line-told.ensures c.in-BadLine.is)
+    (refl, (c.answer_number.ensures, wrote_nothing _ _))
+
+pub returns-in-Names : goal.returns-in-Names
+unfolding reading_book reading_says reading_done
+returns-in-Names c =
+    kept_reading _
+    (says_read _ _ _
+    (told_event _ c.read_line-told.ensures _
+    c.in-Names.is)) c.run_event.ensures

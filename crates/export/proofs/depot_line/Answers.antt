@@ -1,0 +1,20 @@
+-- `export::depot_line` meets its contract: with room the answer of the line, without room nothing.
+-- Assumes nothing.
+use native.Mathlib.Nat.{zero-add}
+use mathlib.Core.Path.{sym, ◌∙◌}
+use borrow.Author.Tests.{le-leb, lt-leb}
+use Rattle.loops.proofs.BoolLaws.{pick_true, pick_false}
+use borrow.Author.Rules.{rules}
+use Rattle.export.proofs.depot_line.Goals as goal
+
+pub returns-then-out-lt-ANSWER_ROOM : goal.returns-then-out-lt-ANSWER_ROOM
+returns-then-out-lt-ANSWER_ROOM c =
+    let short = lt-leb _ _ c.if-out-lt-ANSWER_ROOM.true in
+    (sym (pick_false _ _ short), (sym (pick_false _ _ short), sym (pick_false _ _ short)))
+
+pub returns : goal.returns
+returns c =
+    let answered = c.answer_line.ensures in
+    let wide = le-leb _ _ c.if-out-lt-ANSWER_ROOM.false in
+    let said = answered.1 in
+    (said.after ∙ zero-add _ ∙ sym (pick_true _ _ wide), (answered.0 ∙ sym (pick_true _ _ wide), said.stored ∙ sym (pick_true _ _ wide)))

@@ -1,0 +1,9 @@
+-- `export::depot_refresh` meets its contract: the promise of the call.
+-- Assumes nothing.
+use Rattle.upkeep.specs.Requests.{refreshed}
+use Rattle.telling.proofs.CallLaws.{by_call}
+use borrow.Author.Rules.{rules}
+use Rattle.export.proofs.depot_refresh.Goals as goal
+
+pub returns : goal.returns
+returns c = by_call (refreshed c.refresh.ensures) c.number_in.ensures

@@ -1,0 +1,9 @@
+-- `export::depot_setup` meets its contract: the promise of the call.
+-- Assumes nothing.
+use Rattle.upkeep.specs.Requests.{setting_up}
+use Rattle.telling.proofs.CallLaws.{by_call}
+use borrow.Author.Rules.{rules}
+use Rattle.export.proofs.depot_setup.Goals as goal
+
+pub returns : goal.returns
+returns c = by_call (setting_up c.setup.ensures) c.number_in.ensures

@@ -1,0 +1,9 @@
+-- `export::depot_take` meets its contract: the promise of the call.
+-- Assumes nothing.
+use Rattle.upkeep.specs.Requests.{took}
+use Rattle.telling.proofs.CallLaws.{by_call}
+use borrow.Author.Rules.{rules}
+use Rattle.export.proofs.depot_take.Goals as goal
+
+pub returns : goal.returns
+returns c = by_call (took c.take.ensures) c.number_in.ensures

@@ -1,0 +1,9 @@
+-- `export::moves::depot_move` meets its contract: the promise of the call.
+-- Assumes nothing.
+use Rattle.upkeep.specs.Requests.{moved}
+use Rattle.telling.proofs.CallLaws.{by_call}
+use borrow.Author.Rules.{rules}
+use Rattle.export.proofs.moves.depot_move.Goals as goal
+
+pub returns : goal.returns
+returns c = by_call (moved c.move_crew.ensures) c.number_in.ensures

@@ -1,0 +1,78 @@
+-- `frame_reader::hand_out` meets its contract. The loop's invariant: the words of the messages passed stand in the buffer, and the next begins at `at`.
+-- Assumes nothing.
+use Rattle.std.proofs.Common.{◌≡◌, ℕ, ◌+◌, ◌-◌, ◌*◌, ◌≤◌, List, length, get_or, sym, refl, ap, ◌∙◌, le_antisymm, zero-add, arith, rules}
+use Rattle.book.specs.Words.{put}
+use Rattle.book.proofs.WordsLaws.{length_put}
+use Rattle.wire.specs.Wire.{joined}
+use Rattle.wire.proofs.WireLaws.{joined_long, put_none, put_run}
+use Rattle.frame.specs.Frame.{size_of, count_in, start_in, message_at, body_in}
+use Rattle.frame.proofs.Theorems.{message_ten}
+use Rattle.frame_form.specs.Asks.{There}
+use Rattle.frame_form.proofs.FormLaws.{start_none, start_more, there_at}
+use Rattle.frame_reader.proofs.hand_out.Goals as goal
+use Rattle.frame_reader.proofs.hand_out.Lts as lts
+use Rattle.frame_reader.proofs.hand_out.Tie as tie
+use Rattle.frame_reader.proofs.hand_out.Reads as reads
+
+-- what is known at a place, for the lemmas below
+abbrev In-loop-i : Type 0
+In-loop-i = lts.In-loop tie.the-claims reads.Pre reads.Post goal.the-invariant-loop-i goal.the-decreases-loop-i
+
+abbrev After-size_of-at : Type 0
+After-size_of-at = lts.After-size_of tie.the-claims reads.Pre reads.Post goal.the-invariant-loop-i goal.the-decreases-loop-i
+
+there : (c : In-loop-i) → let args = c.args in There args.way args.f.now c.loop-i.at
+there c = let pre = c.requires in there_at _ _ c.loop-i.i pre.0 pre.1 (omega (arith, c.loop-i-test.true, pre.2)) c.loop-i.invariant.1
+
+size_is :
+    (c : After-size_of-at) →
+    let args = c.args in c.size_of-at.result
+    ≡ size_of args.way.counts.depots (get_or args.f.now c.loop-i.at 0)
+size_is c = c.size_of-at.ensures ∙ ap
+    (size_of c.args.way.counts.depots) c.word_of_byte.ensures
+
+pub loop-i-init : goal.loop-i-init
+loop-i-init c = (search rules, start_none _ _ c.requires.2, refl, put_none _ 0 _)
+
+pub message_at-m-requires : goal.message_at-m-requires
+message_at-m-requires c = there c
+
+pub write_words-requires : goal.write_words-requires
+write_words-requires c =
+    let loop = c.loop-i in
+    omega (
+      arith,
+      loop.invariant.2,
+      c.loop-i-test.true,
+      c.requires.3,
+      ap length c.message_at-m.ensures
+          ∙ message_ten c.args.way c.args.f.now loop.at,
+    )
+
+pub bounds-f-at : goal.bounds-f-at
+bounds-f-at c = omega (arith, (there c.before.before.before.before.before.before.before.before).begins)
+
+pub overflow_add-at-in-loop-i : goal.overflow_add-at-in-loop-i
+overflow_add-at-in-loop-i c = omega (arith, (there c.before.before.before.before.before.before.before.before.before.before).ends, size_is c)
+
+pub loop-i-preserved : goal.loop-i-preserved
+loop-i-preserved c =
+    let args = c.args in
+    let loop = c.loop-i in
+    let G : ℕ → List ℕ = λ j. message_at args.way args.f.now (start_in args.way.counts.depots args.f.now j) in
+    let ten : 10 * loop.i ≡ 0 + length (joined loop.i G) = sym (zero-add _ ∙ joined_long loop.i 10 G (λ j. message_ten _ _ _)) in (
+      search rules,
+      start_more _ _ _ loop.invariant.1 (size_is c),
+      ap length c.write_words.ensures ∙ length_put _ _ _ ∙ loop.invariant.2,
+      put_run _ 0 loop.i G loop.invariant.3 ten (c.message_at-m.ensures ∙ ap
+          (message_at args.way args.f.now) loop.invariant.1) c.write_words.ensures,
+    )
+
+pub returns : goal.returns
+unfolding body_in
+returns c =
+    let args = c.args in
+    let loop = c.loop-i in
+    loop.invariant.3
+    ∙ ap (λ (n : ℕ). put args.out.now 0 (joined n (λ j. message_at args.way args.f.now (start_in args.way.counts.depots args.f.now j))))
+    (le_antisymm loop.invariant.0 c.loop-i-test.false ∙ c.requires.2)

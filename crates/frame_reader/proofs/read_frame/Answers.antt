@@ -1,0 +1,40 @@
+-- `frame_reader::read_frame` meets its contract: the shared checks, then the rest.
+-- Assumes nothing.
+use Rattle.std.proofs.Common.{◌<◌, sym, ◌∙◌, subst, rules}
+use mathlib.Core.Path.{subst₃}
+use Rattle.book.specs.Layout.{counts_of}
+use Rattle.book.specs.declared.numbers.Depot.{Depot}
+use Rattle.book.specs.declared.numbers.Shelf.{Shelf}
+use Rattle.register.proofs.CallLaws.{bad_link, good_link, not_done}
+use Rattle.register.proofs.TakeTable.{link_open}
+use Rattle.frame.specs.declared.FrameRefusal.TheVariants.{Link}
+use Rattle.frame.specs.Promises.{frame_number, WasRead}
+use Rattle.frame.proofs.PromiseLaws.{refused_as, reader_bad}
+use Rattle.frame_reader.proofs.read_frame.Goals as goal
+
+pub read_at-requires : goal.read_at-requires
+read_at-requires c =
+    let args = c.args in
+    let book = args.book.now in
+    let good = good_link _ _ _ _ _ _ _ c.check_link.ensures c.in-Good.is in
+    let done = link_open book args.depot args.shelf args.from good.0 in (
+      done.0,
+      subst (λ (x : Depot). x.0 < (counts_of book).depots) good.1 done.1,
+      subst (λ (x : Depot). x.0 < (counts_of book).depots) good.3 done.2,
+      subst (λ (x : Shelf). x.0 < (counts_of book).shelves) good.2 done.3,
+    )
+
+pub returns-in-Bad : goal.returns-in-Bad
+unfolding frame_number
+returns-in-Bad c =
+    let bad = bad_link _ _ _ _ _ c.check_link.ensures c.in-Bad.is in
+    refused_as _ _ _ _ (reader_bad _ _ _ _ _ _ _ (not_done _ bad) ∙ bad)
+
+pub returns-in-Good : goal.returns-in-Good
+returns-in-Good c =
+    let args = c.args in
+    let call = c.read_at in
+    let good = good_link _ _ _ _ _ _ _ c.check_link.ensures c.in-Good.is in
+    subst₃ (λ (x : Depot) (y : Shelf) (z : Depot). WasRead args.book.now x.0 y.0 z.0 args.expected args.frame.now args.out.now
+    call.result call.new.d.1.1.1.1.1.0)
+    (sym good.1) (sym good.2) (sym good.3) call.ensures

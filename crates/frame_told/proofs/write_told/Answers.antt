@@ -1,0 +1,23 @@
+-- `frame_told::write_told` meets its contract: the word, then the writer's answer in numbers.
+-- Assumes nothing.
+use native.Mathlib.Omega.{arith}
+use mathlib.Core.Path.{refl}
+use Rattle.frame_told.proofs.ToldLaws.{told_no_room, told_refused, told_done, done_number, size_small}
+use borrow.Author.Rules.{rules}
+use Rattle.frame_told.proofs.write_told.Goals as goal
+
+pub returns-then-told-lt-TOLD_WORDS : goal.returns-then-told-lt-TOLD_WORDS
+returns-then-told-lt-TOLD_WORDS c = told_no_room _ _ _ _ _ c.if-told-lt-TOLD_WORDS.true
+
+pub overflow_cast-told : goal.overflow_cast-told
+overflow_cast-told c =
+    let d = done_number _ _ _ _ c.write_frame.ensures c.in-Done.is in
+    omega (arith, d.1, size_small _ _ _ _ _ _ d.0)
+
+pub returns-in-Refused : goal.returns-in-Refused
+returns-in-Refused c = told_refused _ _ _ _ _ c.if-told-lt-TOLD_WORDS.false _
+    c.write_frame.ensures c.in-Refused.is c.frame_number.ensures
+
+pub returns-in-Done : goal.returns-in-Done
+returns-in-Done c = told_done _ _ _ _ _ c.if-told-lt-TOLD_WORDS.false
+    c.write_frame.ensures c.in-Done.is refl

@@ -1,0 +1,9 @@
+-- `image::head_is` meets its contract.
+-- Assumes nothing.
+use mathlib.Core.Path.{◌∙◌, ap₂}
+use borrow.Author.Rules.{rules}
+use Rattle.image.specs.Image.{same}
+use Rattle.image.proofs.head_is.Goals as goal
+
+pub returns : goal.returns
+returns c = c.same_words.ensures ∙ ap₂ same c.read_words.ensures c.head_of-right.ensures

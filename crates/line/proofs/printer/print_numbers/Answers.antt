@@ -1,0 +1,28 @@
+-- `line::printer::print_numbers` meets its contract. The loop's invariant: the numbers passed are written.
+-- Assumes nothing.
+use Prim.Native.Nat.{◌≤◌, ◌-◌}
+use native.Mathlib.Nat.{le_antisymm, lt_of_lt_of_le}
+use lib.ListN.{take}
+use borrow.Author.Rules.{rules}
+use Rattle.line.specs.Grammar.{spaced}
+use Rattle.line.specs.Printing.{Wrote}
+use Rattle.line.proofs.PrintLaws.{wrote_nothing, wrote_same, wrote_length, wrote_spaced, room_spaced, spaced_none}
+use Rattle.line.proofs.printer.print_numbers.Goals as goal
+
+pub loop-i-init : goal.loop-i-init
+loop-i-init c = (search rules, wrote_same (spaced_none c.args.numbers.now) (wrote_nothing _ _))
+
+pub print_spaced-next-requires : goal.print_spaced-next-requires
+print_spaced-next-requires c =
+    let pre = c.requires in
+    room_spaced _ c.loop-i.i _ c.loop-i-test.true pre.0 pre.1 c.loop-i.invariant.1
+
+pub loop-i-preserved : goal.loop-i-preserved
+loop-i-preserved c =
+    (search rules, wrote_spaced _ _ (lt_of_lt_of_le c.loop-i-test.true c.requires.0) c.loop-i.invariant.1 c.print_spaced-next.ensures)
+
+pub shape_of-out : goal.shape_of-out
+shape_of-out c = wrote_length c.loop-i.invariant.1
+
+pub returns : goal.returns
+returns c = rw (le_antisymm c.loop-i.invariant.0 c.loop-i-test.false) at c.loop-i.invariant.1

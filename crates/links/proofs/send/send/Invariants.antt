@@ -1,0 +1,20 @@
+-- What the loop keeps, and what falls. Answers.antt has the idea.
+-- Assumes nothing.
+use Prim.Native.Nat.{ℕ, ◌≤◌, ◌<◌, ◌-◌}
+use native.Mathlib.Nat.{le_antisymm}
+use native.Mathlib.Omega.{arith}
+use mathlib.Core.Path.{◌≡◌, ◌∙◌, refl, sym, ap, subst}
+use lib.ListN.{length}
+use Rattle.loops.specs.Loops.{times}
+use Rattle.loops.proofs.LoopLaws.{times_none, times_more}
+use Rattle.book.specs.Layout.{link_of, held}
+use Rattle.links.specs.Send.{sent_to, sent}
+use Rattle.links.proofs.SendCode.{turn_room}
+use borrow.Author.Rules.{rules}
+use Rattle.links.proofs.send.send.Given as goal
+
+abbrev pub invariant-loop-to : goal.invariant-loop-to
+invariant-loop-to l = (l.to ≤ l.n) × (length l.book ≡ length l.initial.book) × (l.book ≡ times l.to (sent_to l.d.0 l.s.0 l.message) l.initial.book)
+
+abbrev pub decreases-loop-to : goal.decreases-loop-to
+decreases-loop-to l = l.n - l.to

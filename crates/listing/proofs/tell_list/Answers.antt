@@ -1,0 +1,31 @@
+-- `listing::tell_list` meets its contract: without room nothing is done; with it the promise of the list, and its words.
+-- Assumes nothing.
+use mathlib.Core.Path.{◌∙◌}
+use Rattle.paper.specs.Calls.{number_in}
+use Rattle.paper.specs.declared.answer.Answer as plain
+use Rattle.paper.specs.Answers.{paper_listed}
+use Rattle.room.proofs.RoomLaws.{with_room, no_room_law}
+use Rattle.listing.proofs.ListLaws.{list_book_law, list_number_law, done_words, refused_words}
+use borrow.Author.Rules.{rules}
+use Rattle.listing.proofs.tell_list.Goals as goal
+
+pub returns-then-out-lt-LIST_WORDS : goal.returns-then-out-lt-LIST_WORDS
+returns-then-out-lt-LIST_WORDS c =
+    let short = c.if-out-lt-LIST_WORDS.true in
+    (no_room_law _ _ _ _ short, (no_room_law _ _ _ _ short, no_room_law _ _ _ _ short))
+
+pub returns-in_default : goal.returns-in_default
+unfolding number_in paper_listed
+returns-in_default c =
+    let wide = c.if-out-lt-LIST_WORDS.false in
+    let p = c.list-answer.ensures in
+    let e = c.in_default.is in
+    (list_number_law p plain.Answer.Done e ∙ with_room _ _ _ _ wide, (list_book_law p ∙ with_room _ _ _ _ wide, c.fill.ensures ∙ done_words p e _ ∙ with_room _ _ _ _ wide))
+
+pub returns : goal.returns
+unfolding number_in paper_listed
+returns c =
+    let wide = c.if-out-lt-LIST_WORDS.false in
+    let p = c.list-answer.ensures in
+    let e = c.in-Refused.is in
+    (c.number_of.ensures ∙ list_number_law p _ e ∙ with_room _ _ _ _ wide, (list_book_law p ∙ with_room _ _ _ _ wide, refused_words p _ e _ ∙ with_room _ _ _ _ wide))

@@ -1,0 +1,20 @@
+-- What the loop keeps, and what falls. Answers.antt has the idea.
+-- Assumes nothing.
+use Prim.Native.Nat.{ℕ, ◌≤◌, ◌-◌}
+use native.Mathlib.Nat.{le_antisymm}
+use mathlib.Core.Path.{◌≡◌, ◌∙◌, refl, sym, ap}
+use mathlib.Core.List.{List}
+use lib.ListN.{length}
+use Rattle.loops.specs.Loops.{times}
+use Rattle.loops.proofs.LoopLaws.{times_none, times_more}
+use Rattle.order.specs.Vector.{merged_at}
+use Rattle.book.specs.Layout.{stable}
+use Rattle.register.specs.Calls.{gathered_from}
+use borrow.Author.Rules.{rules}
+use Rattle.moment.proofs.gather.Given as goal
+
+abbrev pub invariant-loop-s : goal.invariant-loop-s
+invariant-loop-s l = (l.s ≤ l.p) × (length l.vector ≡ length l.initial.vector) × (l.vector ≡ times l.s (turn l.n l.d.0 l.book) l.initial.vector)
+
+abbrev pub decreases-loop-s : goal.decreases-loop-s
+decreases-loop-s l = l.p - l.s

@@ -1,0 +1,50 @@
+-- `moment::merge_all` meets its contract: the loop's invariant is that the words are those of the turns so far.
+-- Assumes nothing.
+use Prim.Native.Nat.{ℕ, ◌≤◌, ◌<◌, ◌-◌}
+use native.Mathlib.Nat.{le_antisymm, lt_of_lt_of_le}
+use mathlib.Core.Path.{◌≡◌, ◌∙◌, refl, sym, ap, subst}
+use mathlib.Core.List.{List}
+use lib.ListN.{length, get_or}
+use Rattle.loops.specs.Loops.{times}
+use Rattle.loops.proofs.LoopLaws.{times_none, times_more}
+use Rattle.order.specs.Vector.{merged_at}
+use Rattle.order.specs.Record.{vector_of}
+use Rattle.book.specs.Layout.{crew_at, stored}
+use Rattle.named.proofs.NamedLaws.{below_at}
+use Rattle.register.specs.Calls.{merged_all}
+use borrow.Author.Rules.{rules}
+use Rattle.moment.proofs.merge_all.Goals as goal
+
+-- one turn, with bearing k
+abbrev turn : ℕ → ℕ → ℕ → ℕ → List ℕ → List ℕ
+turn n c d k m = merged_at n n (vector_of (stored m d k)) (crew_at c) m
+
+pub loop-i-init : goal.loop-i-init
+loop-i-init c = (search rules, refl, times_none _ _)
+
+pub bearing_at-bearing-requires : goal.bearing_at-bearing-requires
+bearing_at-bearing-requires c = (c.loop-i-test.true, c.requires.5)
+
+pub merge_one-requires : goal.merge_one-requires
+merge_one-requires c = (
+  c.loop-i.invariant.1 ∙ c.requires.0,
+  c.requires.1,
+  c.requires.3,
+  c.requires.4,
+  subst (λ (k : ℕ). k < 160) (sym c.bearing_at-bearing.ensures) (lt_of_lt_of_le (below_at _ _ c.requires.5 _ c.loop-i-test.true) c.requires.2),
+)
+
+pub loop-i-preserved : goal.loop-i-preserved
+loop-i-preserved c =
+    let call = c.merge_one in
+    let loop = c.loop-i in
+    let args = c.args in (
+      search rules,
+      call.auto.book ∙ loop.invariant.1,
+      times_more _ _ _ loop.invariant.2 (call.ensures
+          ∙ ap (λ (k : ℕ). turn args.n.depots args.c.0 args.d.0 k loop.book) c.bearing_at-bearing.ensures),
+    )
+
+pub returns : goal.returns
+unfolding merged_all
+returns c = rw (le_antisymm c.loop-i.invariant.0 c.loop-i-test.false) at c.loop-i.invariant.2

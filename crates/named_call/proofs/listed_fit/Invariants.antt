@@ -1,0 +1,21 @@
+-- What the loop keeps, and what falls. Answers.antt has the idea.
+-- Assumes nothing.
+use Prim.Native.Nat.{ℕ, ◌≤◌, ◌<◌, ◌-◌}
+use native.Mathlib.Nat.{le_antisymm, lt_of_lt_of_le}
+use mathlib.Core.Path.{◌≡◌, ◌∙◌, sym, ap, subst}
+use mathlib.Core.Bool.{true}
+use lib.ListN.{length, get_or}
+use Rattle.loops.specs.Loops.{every}
+use Rattle.loops.proofs.BoolLaws.{test_passed, test_failed}
+use Rattle.loops.proofs.LoopLaws.{every_none, every_more, every_stop}
+use Rattle.fit.specs.Fit.{stored_fit}
+use Rattle.named.specs.Named.{listed_fit}
+use Rattle.named.proofs.NamedLaws.{below_at}
+use borrow.Author.Rules.{rules}
+use Rattle.named_call.proofs.listed_fit.Given as goal
+
+abbrev pub invariant-loop-i : goal.invariant-loop-i
+invariant-loop-i l = (l.i ≤ length l.bearings) × (every l.i (λ j. stored_fit l.n l.book l.d.0 (get_or l.bearings j 0)) ≡ true)
+
+abbrev pub decreases-loop-i : goal.decreases-loop-i
+decreases-loop-i l = length l.bearings - l.i

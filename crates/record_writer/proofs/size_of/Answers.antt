@@ -1,0 +1,31 @@
+-- `record_writer::size_of` meets its contract: the bytes of the head, and four for each number.
+-- Assumes nothing.
+use native.Mathlib.Omega.{arith}
+use Rattle.journal.specs.Record.{form_of, head_by, head_size, kind_in, numbers_of}
+use Rattle.record_writer.proofs.WritingLaws.{long_as}
+use borrow.Author.Rules.{rules}
+use Rattle.record_writer.proofs.size_of.Goals as goal
+
+pub returns-in-Setup : goal.returns-in-Setup
+returns-in-Setup c = omega (arith, long_as c.args.beside.now c.in-Setup.is)
+
+pub returns-in-Read : goal.returns-in-Read
+returns-in-Read c = omega (arith, long_as c.args.beside.now c.in-Read.is)
+
+pub returns-in-Write : goal.returns-in-Write
+returns-in-Write c = omega (arith, long_as c.args.beside.now c.in-Write.is)
+
+pub returns-in-Tick : goal.returns-in-Tick
+returns-in-Tick c = omega (arith, long_as c.args.beside.now c.in-Tick.is)
+
+pub returns-in-Take : goal.returns-in-Take
+returns-in-Take c = omega (arith, long_as c.args.beside.now c.in-Take.is)
+
+pub returns-in-Refresh : goal.returns-in-Refresh
+returns-in-Refresh c = omega (arith, long_as c.args.beside.now c.in-Refresh.is)
+
+pub returns-in-Move : goal.returns-in-Move
+returns-in-Move c = omega (arith, long_as c.args.beside.now c.in-Move.is)
+
+pub returns-in-List : goal.returns-in-List
+returns-in-List c = omega (arith, long_as c.args.beside.now c.in-List.is)

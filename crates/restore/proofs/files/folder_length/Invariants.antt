@@ -1,0 +1,10 @@
+-- What the loop keeps, and what falls. Answers.antt has the idea.
+-- Assumes nothing.
+use Rattle.std.proofs.Common.{◌≡◌, ℕ, ◌≤◌, List, length, take, sym, le_refl, arith, length-take-le, rules}
+use Rattle.restore.proofs.files.folder_length.Given as goal
+
+abbrev pub invariant-loop-i : goal.invariant-loop-i
+invariant-loop-i l = l.i ≤ length l.path
+
+abbrev pub decreases-loop-i : goal.decreases-loop-i
+decreases-loop-i l = l.i

@@ -1,0 +1,22 @@
+-- `script::is_answered` meets its contract: an answer has at most its room, and it is the one that was compared.
+-- Assumes nothing.
+use mathlib.Core.Path.{sym, ◌∙◌}
+use lib.Seq.{length-take-le}
+use Rattle.line.proofs.PrintLaws.{wrote_start}
+use Rattle.events.proofs.SayLaws.{answer_room_law}
+use borrow.Author.Rules.{rules}
+use Rattle.script.proofs.is_answered.Goals as goal
+
+pub slice_bounds-said-end : goal.slice_bounds-said-end
+slice_bounds-said-end c =
+    answer_room_law _ _ c.answer_line-n.ensures.1 c.requires
+
+pub slice_bounds-said-end-2 : goal.slice_bounds-said-end-2
+slice_bounds-said-end-2 c = sym (length-take-le _ _ (slice-reshare-prefix-said c.before.before))
+
+pub returns : goal.returns
+returns c =
+    let told = c.same.ensures in
+    let call = c.answer_line-n.ensures in
+    let said = wrote_start call.1 (slice-reshare-prefix-said c.before.before.before) in
+    (call.0, (λ e. sym (told.0 e) ∙ said, λ e. told.1 (said ∙ sym e)))

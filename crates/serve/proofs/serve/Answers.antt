@@ -1,0 +1,8 @@
+-- `serve::serve` meets its contract: it begins with a book of zeros.
+-- Assumes nothing.
+use Rattle.stream.proofs.Theorems.{began_zeros}
+use borrow.Author.Rules.{rules}
+use Rattle.serve.proofs.serve.Goals as goal
+
+pub serve_on-requires : goal.serve_on-requires
+serve_on-requires c = began_zeros

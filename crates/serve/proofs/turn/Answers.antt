@@ -1,0 +1,12 @@
+-- `serve::turn` meets its contract: a piece's answers and records lie in the buffers that were lent for them.
+-- Assumes nothing.
+use mathlib.Core.Path.{sym}
+use lib.Seq.{length-take-le}
+use borrow.Author.Rules.{rules}
+use Rattle.serve.proofs.turn.Goals as goal
+
+pub slice_bounds-keep_records-end-2 : goal.slice_bounds-keep_records-end-2
+slice_bounds-keep_records-end-2 c = sym (length-take-le _ _ c.keep_piece-at.ensures.1.1.1.1.1)
+
+pub slice_bounds-write_answers-end-2 : goal.slice_bounds-write_answers-end-2
+slice_bounds-write_answers-end-2 c = sym (length-take-le _ _ c.keep_piece-at.ensures.1.1.1.1.0)

@@ -1,0 +1,16 @@
+-- What the loop keeps, and what falls. Answers.antt has the idea.
+-- Assumes nothing.
+use Prim.Native.Nat.{◌≤◌, ◌-◌}
+use native.Mathlib.Nat.{le_antisymm}
+use mathlib.Core.Path.{◌≡◌, ◌∙◌, refl}
+use lib.ListN.{length}
+use Rattle.shelf.specs.Show.{swept}
+use Rattle.shelf.proofs.ShelfCode.{sweep_none, sweep_more, sweep_kept, sweep_bearing}
+use borrow.Author.Rules.{rules}
+use Rattle.shelf.proofs.show.sweep.Given as goal
+
+abbrev pub invariant-loop-i : goal.invariant-loop-i
+invariant-loop-i l = (l.i ≤ l.count) × (length l.book ≡ length l.initial.book) × (swept l.n l.d.0 l.s.0 l.q.0 l.i l.initial.book ≡ record { words = l.book; l.kept = l.kept })
+
+abbrev pub decreases-loop-i : goal.decreases-loop-i
+decreases-loop-i l = l.count - l.i

@@ -1,0 +1,40 @@
+-- `register::calls::take::take` meets its contract: the shared checks, then the rest.
+-- Assumes nothing.
+use Prim.Native.Nat.{◌<◌}
+use mathlib.Core.Path.{◌∙◌, sym, subst, subst₃}
+use Rattle.book.specs.Layout.{counts_of}
+use Rattle.book.specs.declared.numbers.Depot.{Depot}
+use Rattle.book.specs.declared.numbers.Shelf.{Shelf}
+use Rattle.paper.specs.Answers.{paper}
+use Rattle.register.specs.Promises.{Take}
+use Rattle.register.proofs.CallLaws.{bad_link, good_link, not_done, by_refusal, after_refused}
+use Rattle.register.proofs.TakeTable.{link_open}
+use Rattle.register.proofs.SendTable.{take_bad}
+use borrow.Author.Rules.{rules}
+use Rattle.take.proofs.take.Goals as goal
+
+pub take_at-requires : goal.take_at-requires
+take_at-requires c =
+    let args = c.args in
+    let book = args.book.now in
+    let good = good_link _ _ _ _ _ _ _ c.check_link.ensures c.in-Good.is in
+    let done = link_open book args.depot args.shelf args.from good.0 in (
+      done.0,
+      subst (λ (x : Depot). x.0 < (counts_of book).depots) good.1 done.1,
+      subst (λ (x : Depot). x.0 < (counts_of book).depots) good.3 done.2,
+      subst (λ (x : Shelf). x.0 < (counts_of book).shelves) good.2 done.3,
+    )
+
+pub returns-in-Bad : goal.returns-in-Bad
+unfolding paper
+returns-in-Bad c =
+    let bad = bad_link _ _ _ _ _ c.check_link.ensures c.in-Bad.is in
+    let e = take_bad _ _ _ _ (not_done _ bad) ∙ bad in
+    record { answer = by_refusal _ _ e; book = after_refused _ _ _ e }
+
+pub returns-in-Good : goal.returns-in-Good
+returns-in-Good c =
+    let call = c.take_at in
+    let book = c.args.book.now in
+    let good = good_link _ _ _ _ _ _ _ c.check_link.ensures c.in-Good.is in
+    subst₃ (λ (x : Depot) (y : Shelf) (z : Depot). Take book x.0 y.0 z.0 call.result call.new.book) (sym good.1) (sym good.2) (sym good.3) call.ensures

@@ -1,0 +1,21 @@
+-- `telling::tell_write` meets its contract: without room nothing is done; with it the promise of the write, and what is told of its answer.
+-- Assumes nothing.
+use mathlib.Core.Path.{◌∙◌}
+use Rattle.upkeep.specs.Requests.{did_write}
+use Rattle.room.proofs.RoomLaws.{with_room, no_room_law}
+use Rattle.telling.proofs.CallLaws.{by_call, told_by}
+use borrow.Author.Rules.{rules}
+use Rattle.telling.proofs.tell_write.Goals as goal
+
+pub returns-then-out-lt-WRITE_WORDS : goal.returns-then-out-lt-WRITE_WORDS
+returns-then-out-lt-WRITE_WORDS c =
+    let short = c.if-out-lt-WRITE_WORDS.true in
+    (no_room_law _ _ _ _ short, (no_room_law _ _ _ _ short, no_room_law _ _ _ _ short))
+
+pub returns : goal.returns
+returns c =
+    let wide = c.if-out-lt-WRITE_WORDS.false in
+    let promise = did_write c.write.ensures in
+    let said = by_call promise c.tell_written.ensures.0 in
+    let told = told_by _ promise c.tell_written.ensures.1 in
+    (said.0 ∙ with_room _ _ _ _ wide, (said.1 ∙ with_room _ _ _ _ wide, told ∙ with_room _ _ _ _ wide))

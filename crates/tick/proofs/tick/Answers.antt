@@ -1,0 +1,39 @@
+-- `register::calls::tick::tick` meets its contract: the shared checks, then the rest.
+-- Assumes nothing.
+use Prim.Native.Nat.{◌<◌}
+use mathlib.Core.Path.{◌∙◌, sym, subst, subst₂}
+use Rattle.book.specs.Layout.{counts_of}
+use Rattle.book.specs.declared.numbers.Depot.{Depot}
+use Rattle.book.specs.declared.numbers.Shelf.{Shelf}
+use Rattle.paper.specs.Answers.{paper}
+use Rattle.register.specs.Promises.{Tick}
+use Rattle.register.proofs.CallLaws.{bad_place, good_place, not_done, by_refusal, after_refused}
+use Rattle.register.proofs.Numbers.{place_done}
+use Rattle.register.proofs.SendTable.{tick_bad}
+use borrow.Author.Rules.{rules}
+use Rattle.tick.proofs.tick.Goals as goal
+
+pub tick_at-requires : goal.tick_at-requires
+tick_at-requires c =
+    let args = c.args in
+    let book = args.book.now in
+    let good = good_place _ _ _ _ _ c.check_place.ensures c.in-Good.is in
+    let done = place_done book args.depot args.shelf good.0 in (
+      done.0,
+      subst (λ (x : Depot). x.0 < (counts_of book).depots) good.1 done.1,
+      subst (λ (x : Shelf). x.0 < (counts_of book).shelves) good.2 done.2,
+    )
+
+pub returns-in-Bad : goal.returns-in-Bad
+unfolding paper
+returns-in-Bad c =
+    let bad = bad_place _ _ _ _ c.check_place.ensures c.in-Bad.is in
+    let e = tick_bad _ _ _ (not_done _ bad) ∙ bad in
+    record { answer = by_refusal _ _ e; book = after_refused _ _ _ e }
+
+pub returns-in-Good : goal.returns-in-Good
+returns-in-Good c =
+    let call = c.tick_at in
+    let book = c.args.book.now in
+    let good = good_place _ _ _ _ _ c.check_place.ensures c.in-Good.is in
+    subst₂ (λ (x : Depot) (y : Shelf). Tick book x.0 y.0 call.result call.new.book) (sym good.1) (sym good.2) call.ensures
