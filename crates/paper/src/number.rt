@@ -6,6 +6,7 @@ ghost use Rattle.paper.specs.Answers.{number_of, paper};
 use crate::answer::{Answer, Refusal};
 
 // The number of a refusal.
+#[tactic(auto, unfolding(crate::specs::Answers::number_of))]
 pub fn number_of(r: Refusal) -> u32
     ensures { result ≡ number_of r }
 {

@@ -10,44 +10,44 @@ use Rattle.upkeep.specs.Requests.{Request, setup, call}
 
 -- the parts that are judged one by one
 pub data Part : Type 0 where
-  theLength theCounts : Part
+  the_length the_counts : Part
   -- of a crew: its home, its vector
-  aHome aCrew : ℕ → Part
+  a_home a_crew : ℕ → Part
   -- of a depot's shelf: the clock, the stable vector
-  aClock aStable : ℕ → ℕ → Part
+  a_clock a_stable : ℕ → ℕ → Part
   -- at a depot's shelf: the last stamp seen from a depot
   a_stamp : ℕ → ℕ → ℕ → Part
   -- of a shelf's link from a depot to a depot: its head; head and untaken messages; and the whole of it, head and all messages
-  aHead aWaiting aLink : ℕ → ℕ → ℕ → Part
+  a_head a_waiting a_link : ℕ → ℕ → ℕ → Part
   -- at a depot: the stored version of a bearing
   a_stored : ℕ → ℕ → Part
 
 -- the counts name this part: every number is in range; a depot sees no stamp of its own and has no link to itself
 abbrev pub Named : Counts → Part → Type 0
-Named n theLength = Unit
-Named n theCounts = Unit
-Named n (aHome c) = c < n.crews
-Named n (aCrew c) = c < n.crews
-Named n (aClock d s) = (d < n.depots) × (s < n.shelves)
-Named n (aStable d s) = (d < n.depots) × (s < n.shelves)
+Named n the_length = Unit
+Named n the_counts = Unit
+Named n (a_home c) = c < n.crews
+Named n (a_crew c) = c < n.crews
+Named n (a_clock d s) = (d < n.depots) × (s < n.shelves)
+Named n (a_stable d s) = (d < n.depots) × (s < n.shelves)
 Named n (a_stamp d s from) = (d < n.depots) × (s < n.shelves) × (from < n.depots) × (from ≡ d → ⊥)
-Named n (aHead s from to) = (s < n.shelves) × (from < n.depots) × (to < n.depots) × (from ≡ to → ⊥)
-Named n (aWaiting s from to) = (s < n.shelves) × (from < n.depots) × (to < n.depots) × (from ≡ to → ⊥)
-Named n (aLink s from to) = (s < n.shelves) × (from < n.depots) × (to < n.depots) × (from ≡ to → ⊥)
+Named n (a_head s from to) = (s < n.shelves) × (from < n.depots) × (to < n.depots) × (from ≡ to → ⊥)
+Named n (a_waiting s from to) = (s < n.shelves) × (from < n.depots) × (to < n.depots) × (from ≡ to → ⊥)
+Named n (a_link s from to) = (s < n.shelves) × (from < n.depots) × (to < n.depots) × (from ≡ to → ⊥)
 Named n (a_stored d k) = (d < n.depots) × (k < n.bearings)
 
 -- the part is fit
 unfoldable pub fit_part : Counts → List ℕ → Part → Bool
-fit_part n l theLength = eqb (length l) book_words
-fit_part n l theCounts = counts_fit n
-fit_part n l (aHome c) = home_fit n l c
-fit_part n l (aCrew c) = crew_fit n l c
-fit_part n l (aClock d s) = clock_fit l d s
-fit_part n l (aStable d s) = stable_fit n l d s
+fit_part n l the_length = eqb (length l) book_words
+fit_part n l the_counts = counts_fit n
+fit_part n l (a_home c) = home_fit n l c
+fit_part n l (a_crew c) = crew_fit n l c
+fit_part n l (a_clock d s) = clock_fit l d s
+fit_part n l (a_stable d s) = stable_fit n l d s
 fit_part n l (a_stamp d s from) = leb (seen l d s from) end
-fit_part n l (aHead s from to) = head_fit l (link_of s from to)
-fit_part n l (aWaiting s from to) = waiting_fit n l s from (link_of s from to)
-fit_part n l (aLink s from to) = link_fit n l s from (link_of s from to)
+fit_part n l (a_head s from to) = head_fit l (link_of s from to)
+fit_part n l (a_waiting s from to) = waiting_fit n l s from (link_of s from to)
+fit_part n l (a_link s from to) = link_fit n l s from (link_of s from to)
 fit_part n l (a_stored d k) = stored_fit n l d k
 
 -- in the book l this part is fit, if the book's counts name it

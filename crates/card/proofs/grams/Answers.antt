@@ -26,17 +26,17 @@ pub float_from_bits-d : goal.float_from_bits-d
 float_from_bits-d c = word_number _ (fit_diameter _ _ (fit c))
 
 pub float_to_float-d : goal.float_to_float-d
-float_to_float-d c = length_widens _ (fit_diameter _ _ (fit c.before.before))
+float_to_float-d c = length_widens _ (fit_diameter _ _ (fit c.before))
 
 pub float_from_bits-w : goal.float_from_bits-w
-float_from_bits-w c = word_number _ (fit_width _ _ (fit c.before.before))
+float_from_bits-w c = word_number _ (fit_width _ _ (fit c.before))
 
 pub float_to_float-w : goal.float_to_float-w
-float_to_float-w c = length_widens _ (fit_width _ _ (fit c.before.before.before))
+float_to_float-w c = length_widens _ (fit_width _ _ (fit c.before.before))
 
 pub float_to_bits-result : goal.float_to_bits-result
-float_to_bits-result c = rw (weight_is _ _) (weight_number _ _ (fit c.before.before.before))
+float_to_bits-result c = rw (weight_is _ _) (weight_number _ _ (fit c.before.before))
 
 pub returns : goal.returns
 unfolding grams_answer grams_of
-returns c = rw (weight_is _ _) (sym (pick_true _ _ (fit c.before.before.before)))
+returns c = rw (weight_is _ _) (sym (pick_true _ _ (fit c.before.before)))

@@ -51,7 +51,7 @@ overflow_add-at-in-loop-i c =
     let args = c.args in
     let loop = c.loop-i in
     let g : ℕ → List ℕ = λ j. slot args.book.now args.q.0 (args.taken + j) in
-    let next : loop.at + c.size_of-at.result ≡ place_of args.depots args.count g (loop.i + 1) = place_more _ _ g _ loop.invariant.1 (size_is c) in
+    let next : loop.at + c.size_of-at.result ≡ place_of args.depots args.count g (loop.i + 1) = place_more _ _ g _ loop.invariant.1 (size_is c.before) in
     omega (
       arith,
       next,
@@ -67,7 +67,7 @@ loop-i-preserved c =
     let loop = c.loop-i in
     let g : ℕ → List ℕ = λ j. slot args.book.now args.q.0 (args.taken + j) in (
       search rules,
-      place_more _ _ g _ loop.invariant.1 (size_is c),
+      place_more _ _ g _ loop.invariant.1 (size_is c.before),
       ap length c.put_message.ensures ∙ length_put _ _ _ ∙ loop.invariant.2,
       put_run _ (body_at args.count) loop.i (λ k. message_bytes args.depots (g k)) loop.invariant.3 (place_runs args.depots args.count g loop.i loop.invariant.1)
           (ap (message_bytes args.depots) (part_from args.book.now 10 c.slot_at-from.ensures))

@@ -41,7 +41,7 @@ overflow_add-at-in-loop-i c =
     let args = c.args in
     let loop = c.loop-i in
     let g : ℕ → List ℕ = λ j. slot args.book.now args.q.0 (args.taken + j) in
-    let next : loop.at + c.size_of-at.result ≡ place_of args.depots args.count g (loop.i + 1) = place_more _ _ g _ loop.invariant.1 (size_is c) in
+    let next : loop.at + c.size_of-at.result ≡ place_of args.depots args.count g (loop.i + 1) = place_more _ _ g _ loop.invariant.1 (size_is c.before) in
     omega (
       arith,
       next,
@@ -57,7 +57,7 @@ loop-i-preserved c =
     let loop = c.loop-i in
     let g : ℕ → List ℕ = λ j. slot args.book.now args.q.0 (args.taken + j) in (
       search rules,
-      place_more _ _ g _ loop.invariant.1 (size_is c),
+      place_more _ _ g _ loop.invariant.1 (size_is c.before),
       ap length c.put_half.ensures ∙ length_put _ _ _ ∙ loop.invariant.2,
       put_run _ 4 loop.i (λ k. half_bytes (place_of args.depots args.count g k)) loop.invariant.3 (offset_runs args.depots args.count g loop.i)
           (ap half_bytes loop.invariant.1) c.put_half.ensures,

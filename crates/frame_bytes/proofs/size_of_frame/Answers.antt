@@ -31,7 +31,7 @@ overflow_add-at-in-loop-i c =
     let args = c.args in
     let loop = c.loop-i in
     let g : ℕ → mathlib.Core.List.List ℕ = λ j. slot args.book.now args.q.0 (args.taken + j) in
-    let next : loop.at + c.size_of-at.result ≡ place_of args.depots args.count g (loop.i + 1) = place_more _ _ g _ loop.invariant.1 (size_is c) in
+    let next : loop.at + c.size_of-at.result ≡ place_of args.depots args.count g (loop.i + 1) = place_more _ _ g _ loop.invariant.1 (size_is c.before) in
     omega (
       arith,
       next,
@@ -42,7 +42,7 @@ overflow_add-at-in-loop-i c =
     )
 
 pub loop-i-preserved : goal.loop-i-preserved
-loop-i-preserved c = (search rules, place_more _ _ _ _ c.loop-i.invariant.1 (size_is c))
+loop-i-preserved c = (search rules, place_more _ _ _ _ c.loop-i.invariant.1 (size_is c.before))
 
 pub returns : goal.returns
 returns c =

@@ -54,7 +54,7 @@ message_at-m-requires c =
       begins = omega
           (arith, c.if-f-at.false);
       known = omega (arith, c.if-size-eq0.false, size_is c.before.before.before);
-      ends = ends c;
+      ends = ends c.before;
     }
 
 pub returns : goal.returns

@@ -66,15 +66,15 @@ pub bounds-f-at : goal.bounds-f-at
 bounds-f-at c = omega (arith, (passed c.before.before).there)
 
 pub overflow_add-at-in-loop-i : goal.overflow_add-at-in-loop-i
-overflow_add-at-in-loop-i c = omega (arith, (passed c.before.before.before.before).ends, size_is c)
+overflow_add-at-in-loop-i c = omega (arith, (passed c.before.before.before.before).ends, size_is c.before)
 
 pub loop-i-preserved : goal.loop-i-preserved
 loop-i-preserved c =
     let loop = c.loop-i in (
       search rules,
-      start_more _ _ _ loop.invariant.1 (size_is c),
+      start_more _ _ _ loop.invariant.1 (size_is c.before),
       every_more _ _ loop.invariant.2 (test_passed (one_said c.before.before.before.before.before) c.if-not-message_is_right.false-raw),
-      omega (arith, (passed c.before.before.before.before).ends, size_is c),
+      omega (arith, (passed c.before.before.before.before).ends, size_is c.before),
     )
 
 pub returns : goal.returns

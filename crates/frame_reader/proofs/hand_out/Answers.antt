@@ -35,7 +35,7 @@ pub loop-i-init : goal.loop-i-init
 loop-i-init c = (search rules, start_none _ _ c.requires.2, refl, put_none _ 0 _)
 
 pub message_at-m-requires : goal.message_at-m-requires
-message_at-m-requires c = there c
+message_at-m-requires c = there c.before
 
 pub write_words-requires : goal.write_words-requires
 write_words-requires c =
@@ -53,7 +53,7 @@ pub bounds-f-at : goal.bounds-f-at
 bounds-f-at c = omega (arith, (there c.before.before.before.before.before.before.before.before).begins)
 
 pub overflow_add-at-in-loop-i : goal.overflow_add-at-in-loop-i
-overflow_add-at-in-loop-i c = omega (arith, (there c.before.before.before.before.before.before.before.before.before.before).ends, size_is c)
+overflow_add-at-in-loop-i c = omega (arith, (there c.before.before.before.before.before.before.before.before.before.before).ends, size_is c.before)
 
 pub loop-i-preserved : goal.loop-i-preserved
 loop-i-preserved c =
@@ -62,7 +62,7 @@ loop-i-preserved c =
     let G : ℕ → List ℕ = λ j. message_at args.way args.f.now (start_in args.way.counts.depots args.f.now j) in
     let ten : 10 * loop.i ≡ 0 + length (joined loop.i G) = sym (zero-add _ ∙ joined_long loop.i 10 G (λ j. message_ten _ _ _)) in (
       search rules,
-      start_more _ _ _ loop.invariant.1 (size_is c),
+      start_more _ _ _ loop.invariant.1 (size_is c.before),
       ap length c.write_words.ensures ∙ length_put _ _ _ ∙ loop.invariant.2,
       put_run _ 0 loop.i G loop.invariant.3 ten (c.message_at-m.ensures ∙ ap
           (message_at args.way args.f.now) loop.invariant.1) c.write_words.ensures,

@@ -41,7 +41,7 @@ unfolding frame_number
 returns-then-not-is_formed c = refused_as BadFrame _ _ _ (arrival_bad _ _ _ _ (test_failed c.is_formed.ensures c.if-not-is_formed.true-raw))
 
 pub half_at-serial-requires : goal.half_at-serial-requires
-half_at-serial-requires c = omega (arith, (whole c).head.four)
+half_at-serial-requires c = omega (arith, (whole c.before).head.four)
 
 pub overflow_cast-serial : goal.overflow_cast-serial
 overflow_cast-serial c = omega (arith, c.half_at-serial.ensures, small c.before.before)

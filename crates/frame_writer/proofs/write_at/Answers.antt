@@ -151,7 +151,7 @@ pub waiting_fits-requires : goal.waiting_fits-requires
 waiting_fits-requires c =
     let w = base c.before.before.before.before.before.before.before.before in
     let n : Within c.counts_of-n.result = subst Within (sym c.counts_of-n.ensures) w.within in
-    (w.full, n.depots, n.shelf, small c)
+    (w.full, n.depots, n.shelf, small c.before)
 
 pub returns-then-not-waiting_fits : goal.returns-then-not-waiting_fits
 unfolding frame_number number_of
@@ -187,7 +187,7 @@ size_of_frame-size-requires c =
     let w = base c.before.before.before.before.before.before.before.before.before.before.before.before.before.before.before.before in
     let n : Within c.counts_of-n.result = subst Within
     (sym c.counts_of-n.ensures) w.within in
-    (w.full, small c.before.before.before.before.before.before.before.before.before, within c, n.depots)
+    (w.full, small c.before.before.before.before.before.before.before.before.before, within c.before, n.depots)
 
 pub returns-then-out-size : goal.returns-then-out-size
 unfolding frame_number

@@ -74,23 +74,23 @@ store_said c =
     store_made c.args.book.now _ _ (written c.before.before.before.before.before.before.before.before.before) c.requires (record_said c.before.before.before.before.before.before.before) (crew_said c.before.before.before.before.before) c.keep_record-current.ensures.1
 
 pub made_copy-message-requires : goal.made_copy-message-requires
-made_copy-message-requires c = let h = limits c.before.before in (h.0, h.1, h.2, h.3, h.4)
+made_copy-message-requires c = let h = limits c.before in (h.0, h.1, h.2, h.3, h.4)
 
 pub stamp_crew-requires : goal.stamp_crew-requires
-stamp_crew-requires c = let h = limits c.before.before.before.before in (h.0, h.2, may_ready _ _ _ (written c.before.before.before.before) c.requires)
+stamp_crew-requires c = let h = limits c.before.before.before in (h.0, h.2, may_ready _ _ _ (written c.before.before.before) c.requires)
 
 pub keep_record-current-requires : goal.keep_record-current-requires
 keep_record-current-requires c =
-    let h = limits c.before.before.before.before.before.before.before.before.before in
-    let r = record_said c.before.before.before.before.before.before.before in
+    let h = limits c.before.before.before.before.before.before.before.before in
+    let r = record_said c.before.before.before.before.before.before in
     (c.stamp_crew.auto.book ∙ h.0, h.1, h.3, h.4, ap length r ∙ length_made _ _ _ _, ap bearing_of r ∙ made_bearing _ _ _ _)
 
 pub send-requires : goal.send-requires
 send-requires c =
-    let h = limits c.before.before.before.before.before.before.before.before.before.before.before.before.before.before in (
+    let h = limits c.before.before.before.before.before.before.before.before.before.before.before.before.before in (
       c.keep_record-current.auto.book ∙ c.stamp_crew.auto.book ∙ h.0,
-      ap length (copy_said c.before.before.before.before.before.before.before.before.before.before.before.before) ∙ ap suc (length_made _ _ _ _),
-      may_free _ _ _ (written c.before.before.before.before.before.before.before.before.before.before.before.before.before.before) c.requires (store_said c.before.before.before.before.before),
+      ap length (copy_said c.before.before.before.before.before.before.before.before.before.before.before) ∙ ap suc (length_made _ _ _ _),
+      may_free _ _ _ (written c.before.before.before.before.before.before.before.before.before.before.before.before.before) c.requires (store_said c.before.before.before.before),
     )
 
 pub returns : goal.returns

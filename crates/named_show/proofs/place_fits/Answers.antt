@@ -22,7 +22,7 @@ told : (c : After-wide-k) → let args = c.args in c.wide-k.result ≡ bearing_o
 told c = let args = c.args in c.wide-k.ensures ∙ bearing_there args.book.now args.q.0 args.i c.slot_at.ensures
 
 pub nth-requires : goal.nth-requires
-nth-requires c = subst (λ (k : ℕ). k < c.args.n.bearings) (sym (told c)) c.requires.5
+nth-requires c = subst (λ (k : ℕ). k < c.args.n.bearings) (sym (told c.before)) c.requires.5
 
 pub stored_fits-requires : goal.stored_fits-requires
 stored_fits-requires c =

@@ -57,7 +57,7 @@ returns-then-not-base_fits c =
     record { answer = told.0; holds = told.1; book = after_refused BadBook _ _ e }
 
 pub counts_of-n-requires : goal.counts_of-n-requires
-counts_of-n-requires c = (base_open _ (base_book c)).full
+counts_of-n-requires c = (base_open _ (base_book c.before)).full
 
 pub returns-in_default : goal.returns-in_default
 unfolding number_of

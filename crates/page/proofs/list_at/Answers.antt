@@ -84,7 +84,7 @@ home_depot-d-requires c =
 pub list_parts_fit-requires : goal.list_parts_fit-requires
 list_parts_fit-requires c =
     let w = base c.before.before.before.before.before in
-    let h = small c in
+    let h = small c.before in
     (w.full, subst Within (sym c.counts_of-n.ensures) w.within, h.4, h.3, h.5)
 
 pub returns-then-not-list_parts_fit : goal.returns-then-not-list_parts_fit

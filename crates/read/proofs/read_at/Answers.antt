@@ -84,76 +84,76 @@ settled_full : (c : After-settle_home) → length c.settle_home.new.book ≡ 163
 settled_full c = c.settle_home.auto.book ∙ (base c.before.before.before.before.before.before.before.before).full
 
 pub counts_of-n-requires : goal.counts_of-n-requires
-counts_of-n-requires c = (base c.before.before).full
+counts_of-n-requires c = (base c.before).full
 
 pub home_depot-d-requires : goal.home_depot-d-requires
 home_depot-d-requires c =
-    let w = base c.before.before.before in (
+    let w = base c.before.before in (
       w.full,
       lt_of_lt_of_le c.requires.1 w.within.crews,
       subst (λ (n : Counts). home c.args.book.now c.args.c.0 < n.depots) (sym c.counts_of-n.ensures) (w.homes _ c.requires.1),
     )
 
 pub shelf_for-s-requires : goal.shelf_for-s-requires
-shelf_for-s-requires c = subst (λ (n : Counts). 0 < n.shelves) (sym c.counts_of-n.ensures) (base c.before.before.before.before).within.shelf
+shelf_for-s-requires c = subst (λ (n : Counts). 0 < n.shelves) (sym c.counts_of-n.ensures) (base c.before.before.before).within.shelf
 
 pub read_parts_fit-requires : goal.read_parts_fit-requires
 read_parts_fit-requires c =
-    let w = base c.before.before.before.before.before in
+    let w = base c.before.before.before.before in
     let h = small c in
     (w.full, subst Within (sym c.counts_of-n.ensures) w.within, h.3, h.2, h.0, h.1)
 
 pub returns-then-not-read_parts_fit : goal.returns-then-not-read_parts_fit
 unfolding number_of
 returns-then-not-read_parts_fit c =
-    let e = read_book_law _ _ _ c.requires.0 c.requires.1 c.requires.2 (test_failed (parts_said c.before.before.before) c.if-not-read_parts_fit.true-raw) in
+    let e = read_book_law _ _ _ c.requires.0 c.requires.1 c.requires.2 (test_failed (parts_said c.before.before) c.if-not-read_parts_fit.true-raw) in
     let told = read_refused BadBook _ c.refused.ensures e in
     record { answer = told.0; holds = told.1; book = after_refused BadBook _ _ e }
 
 pub settle_home-requires : goal.settle_home-requires
 settle_home-requires c =
-    let w = base c.before.before.before.before.before.before.before.before in (
+    let w = base c.before.before.before.before.before.before.before in (
       w.full,
       lt_of_lt_of_le c.requires.1 w.within.crews,
       home_ready _ _ _ c.counts_of-n.ensures
           c.home_depot-d.ensures c.shelf_for-s.ensures w c.requires.1
-          (parts_fit_law c.before.before),
+          (parts_fit_law c.before),
     )
 
 pub stored_at-at-requires : goal.stored_at-at-requires
 stored_at-at-requires c = let h = small c.before.before.before.before.before.before.before in (h.0, h.2)
 
 pub overflow_add-end : goal.overflow_add-end
-overflow_add-end c = let h = small c.before.before.before.before.before.before.before.before in let e = c.stored_at-at.ensures in omega (arith, h.0, h.2, e)
+overflow_add-end c = let h = small c.before.before.before.before.before.before.before in let e = c.stored_at-at.ensures in omega (arith, h.0, h.2, e)
 
 pub offset_bounds-book-at : goal.offset_bounds-book-at
-offset_bounds-book-at c = let h = small c.before.before.before.before.before.before.before.before in let e = c.stored_at-at.ensures in omega (arith, h.0, h.2, e)
+offset_bounds-book-at c = let h = small c.before.before.before.before.before.before.before in let e = c.stored_at-at.ensures in omega (arith, h.0, h.2, e)
 
 pub slice_bounds-tell-end : goal.slice_bounds-tell-end
 slice_bounds-tell-end c =
-    let h = small c.before.before.before.before.before.before.before.before in
-    let full = settled_full c.before.before.before.before in
+    let h = small c.before.before.before.before.before.before.before in
+    let full = settled_full c.before.before.before in
     let e = c.stored_at-at.ensures in
     omega (arith, full, h.0, h.2, e)
 
 pub tell-answer-requires : goal.tell-answer-requires
 tell-answer-requires c =
     let at = c.stored_at-at in
-    let h = small c.before.before.before.before.before.before.before.before.before in
-    let full = settled_full c.before.before.before.before.before in
+    let h = small c.before.before.before.before.before.before.before.before in
+    let full = settled_full c.before.before.before.before in
     let e = at.ensures in
     let room : at.result + 9 ≤ length c.settle_home.new.book = omega (arith, full, h.0, h.2, e) in
     (ap length (part_from c.settle_home.new.book 9 refl) ∙ length_part c.settle_home.new.book at.result 9 room, h.4)
 
 pub crew_at-requires : goal.crew_at-requires
-crew_at-requires c = (small c.before.before.before.before.before.before.before.before.before.before.before.before).3
+crew_at-requires c = (small c.before.before.before.before.before.before.before.before.before.before.before).3
 
 pub merge-requires : goal.merge-requires
 unfolding cut
 merge-requires c =
     let at = c.crew_at in
-    let h = small c.before.before.before.before.before.before.before.before.before.before.before.before.before.before in
-    let full = settled_full c.before.before.before.before.before.before.before.before.before.before in
+    let h = small c.before.before.before.before.before.before.before.before.before.before.before.before.before in
+    let full = settled_full c.before.before.before.before.before.before.before.before.before in
     let e = at.ensures in
     let four : length c.tell-answer.result.vector ≡ 4 = ap (λ (v : List ℕ). length v) c.tell-answer.ensures.1.0 in
     (omega (arith, full, h.3, h.4, e), omega (arith, h.4, four))

@@ -27,4 +27,4 @@ returns c =
     c.put_words.ensures c.put_words-2.ensures
 
 pub shape_of-out : goal.shape_of-out
-shape_of-out c = ap length (returns c) ∙ length_put _ _ _
+shape_of-out c = ap length (returns c.before) ∙ length_put _ _ _

@@ -55,22 +55,22 @@ parts_fit_law : (c : Else-not-refresh_parts_fit) → let args = c.args in refres
 parts_fit_law c = test_passed (parts_said c.before) c.if-not-refresh_parts_fit.false-raw
 
 pub counts_of-n-requires : goal.counts_of-n-requires
-counts_of-n-requires c = (base c.before.before).full
+counts_of-n-requires c = (base c.before).full
 
 pub refresh_parts_fit-requires : goal.refresh_parts_fit-requires
 refresh_parts_fit-requires c =
-    let w = base c.before.before.before in
+    let w = base c.before.before in
     (w.full, subst Within (sym c.counts_of-n.ensures) w.within, lt_of_lt_of_le c.requires.1 w.within.depots, lt_of_lt_of_le c.requires.2 w.within.shelves)
 
 pub returns-then-not-refresh_parts_fit : goal.returns-then-not-refresh_parts_fit
 unfolding number_of paper
 returns-then-not-refresh_parts_fit c =
-    let e = refresh_book_law _ _ _ c.requires.0 c.requires.1 c.requires.2 (test_failed (parts_said c.before.before) c.if-not-refresh_parts_fit.true-raw) in
+    let e = refresh_book_law _ _ _ c.requires.0 c.requires.1 c.requires.2 (test_failed (parts_said c.before) c.if-not-refresh_parts_fit.true-raw) in
     record { answer = by_refusal BadBook _ e; book = after_refused BadBook _ _ e }
 
 pub lowest_seen-offered-requires : goal.lowest_seen-offered-requires
 lowest_seen-offered-requires c =
-    let w = base c.before.before.before.before.before in
+    let w = base c.before.before.before.before in
     let same = sym c.counts_of-n.ensures in
     (w.full, subst (λ (n : Counts). n.depots ≤ 4) same w.within.depots, subst (λ (n : Counts). n.shelves ≤ 4) same w.within.shelves, lt_of_lt_of_le c.requires.1 w.within.depots)
 
@@ -78,13 +78,13 @@ pub settle-requires : goal.settle-requires
 unfolding refresh_parts
 settle-requires c =
     let book = c.args.book.now in
-    let w = base c.before.before.before.before.before.before.before.before in
+    let w = base c.before.before.before.before.before.before.before in
     let same = sym c.counts_of-n.ensures in (
       w.full,
       ap length c.lowest_seen-offered.ensures,
       subst (λ (n : Counts). Ready n.depots c.args.d.0 c.args.s.0 book) same
           (show_ready (counts_of book) book w.within _ _ c.requires.1 c.requires.2
-          (and_right (every (counts_of book).shelves (seen_fit (counts_of book) book c.args.d.0)) _ (parts_fit_law c.before.before.before.before))),
+          (and_right (every (counts_of book).shelves (seen_fit (counts_of book) book c.args.d.0)) _ (parts_fit_law c.before.before.before))),
     )
 
 pub returns : goal.returns

@@ -46,34 +46,34 @@ parts_fit_law : (c : Else-not-move_parts_fit) → let args = c.args in move_part
 parts_fit_law c = test_passed (parts_said c.before) c.if-not-move_parts_fit.false-raw
 
 pub counts_of-n-requires : goal.counts_of-n-requires
-counts_of-n-requires c = (base c.before.before).full
+counts_of-n-requires c = (base c.before).full
 
 pub move_parts_fit-requires : goal.move_parts_fit-requires
 move_parts_fit-requires c =
-    let w = base c.before.before.before in
+    let w = base c.before.before in
     (w.full, subst Within (sym c.counts_of-n.ensures) w.within, lt_of_lt_of_le c.requires.1 w.within.crews, lt_of_lt_of_le c.requires.2 w.within.depots)
 
 pub returns-then-not-move_parts_fit : goal.returns-then-not-move_parts_fit
 unfolding number_of paper
 returns-then-not-move_parts_fit c =
-    let e = move_book_law _ _ _ c.requires.0 c.requires.1 c.requires.2 (test_failed (parts_said c.before.before) c.if-not-move_parts_fit.true-raw) in
+    let e = move_book_law _ _ _ c.requires.0 c.requires.1 c.requires.2 (test_failed (parts_said c.before) c.if-not-move_parts_fit.true-raw) in
     record { answer = by_refusal BadBook _ e; book = after_refused BadBook _ _ e }
 
 pub is_open-requires : goal.is_open-requires
 is_open-requires c =
-    let w = base c.before.before.before.before.before in
+    let w = base c.before.before.before.before in
     let n = c.counts_of-n.ensures in
     (w.full, subst Within (sym n) w.within, n, lt_of_lt_of_le c.requires.1 w.within.crews, lt_of_lt_of_le c.requires.2 w.within.depots)
 
 pub returns-then-not-is_open : goal.returns-then-not-is_open
 unfolding number_of paper
 returns-then-not-is_open c =
-    let e = move_not_here _ _ _ c.requires.0 c.requires.1 c.requires.2 (parts_fit_law c.before.before.before) (test_failed c.is_open.ensures c.if-not-is_open.true-raw) in
+    let e = move_not_here _ _ _ c.requires.0 c.requires.1 c.requires.2 (parts_fit_law c.before.before) (test_failed c.is_open.ensures c.if-not-is_open.true-raw) in
     record { answer = by_refusal NotHereYet _ e; book = after_refused NotHereYet _ _ e }
 
 pub set_home-requires : goal.set_home-requires
 set_home-requires c =
-    let w = base c.before.before.before.before.before.before.before.before in
+    let w = base c.before.before.before.before.before.before.before in
     (w.full, lt_of_lt_of_le c.requires.1 w.within.crews, lt_of_lt_of_le c.requires.2 w.within.depots)
 
 pub returns : goal.returns

@@ -92,11 +92,11 @@ returns-then-index c =
     record { answer = by_refusal SameDepot _ e; book = after_refused SameDepot _ _ e }
 
 pub counts_of-requires : goal.counts_of-requires
-counts_of-requires c = (base c.before.before.before.before.before).full
+counts_of-requires c = (base c.before.before.before.before).full
 
 pub take_parts_fit-requires : goal.take_parts_fit-requires
 take_parts_fit-requires c =
-    let w = base c.before.before.before.before.before.before in (
+    let w = base c.before.before.before.before.before in (
       w.full,
       subst Within (sym c.counts_of.ensures) w.within,
       lt_of_lt_of_le c.requires.1 w.within.depots,
@@ -108,44 +108,44 @@ pub returns-then-not-take_parts_fit : goal.returns-then-not-take_parts_fit
 unfolding number_of paper
 returns-then-not-take_parts_fit c =
     let pre = c.requires in
-    let e = take_book_law _ _ _ _ pre.0 pre.1 pre.2 pre.3 (other c.before.before.before.before) (test_failed (parts_said c.before.before) c.if-not-take_parts_fit.true-raw) in
+    let e = take_book_law _ _ _ _ pre.0 pre.1 pre.2 pre.3 (other c.before.before.before) (test_failed (parts_said c.before) c.if-not-take_parts_fit.true-raw) in
     record { answer = by_refusal BadBook _ e; book = after_refused BadBook _ _ e }
 
 pub between-q-requires : goal.between-q-requires
-between-q-requires c = let w = base c.before.before.before.before.before.before.before.before in
+between-q-requires c = let w = base c.before.before.before.before.before.before.before in
     (lt_of_lt_of_le c.requires.3 w.within.shelves, lt_of_lt_of_le c.requires.2 w.within.depots, lt_of_lt_of_le c.requires.1 w.within.depots)
 
 pub held_of-count-requires : goal.held_of-count-requires
-held_of-count-requires c = ((base c.before.before.before.before.before.before.before.before.before).full, small c)
+held_of-count-requires c = ((base c.before.before.before.before.before.before.before.before).full, small c)
 
 pub taken_of-done-requires : goal.taken_of-done-requires
-taken_of-done-requires c = ((base c.before.before.before.before.before.before.before.before.before.before).full, small c.before.before)
+taken_of-done-requires c = ((base c.before.before.before.before.before.before.before.before.before).full, small c.before)
 
 pub returns-then-count-done : goal.returns-then-count-done
 unfolding number_of paper
 returns-then-count-done c =
     let pre = c.requires in
-    let numbers = heads c.before.before in
+    let numbers = heads c.before in
     let args = c.args in
     let q = link_of args.s.0 args.from.0 args.d.0 in
     let left : held args.book.now q ≤ taken args.book.now q = omega (arith, c.if-count-done.true, numbers.0, numbers.1) in
-    let e = take_empty _ _ _ _ (fits c.before.before.before.before.before) pre.1 pre.2 pre.3 (other c.before.before.before.before.before.before.before.before) left in
+    let e = take_empty _ _ _ _ (fits c.before.before.before.before) pre.1 pre.2 pre.3 (other c.before.before.before.before.before.before.before) left in
     record { answer = by_refusal EmptyLink _ e; book = after_refused EmptyLink _ _ e }
 
 pub take_one-requires : goal.take_one-requires
 unfolding take_parts
 take_one-requires c =
-    let w = base c.before.before.before.before.before.before.before.before.before.before.before.before.before in
+    let w = base c.before.before.before.before.before.before.before.before.before.before.before.before in
     let pre = c.requires in
     let args = c.args in
-    let numbers = heads c.before.before.before in (
+    let numbers = heads c.before.before in (
       w.full,
       lt_of_lt_of_le pre.1 w.within.depots,
       lt_of_lt_of_le pre.3 w.within.shelves,
       lt_of_lt_of_le pre.2 w.within.depots,
       omega (arith, c.if-count-done.false, numbers.0, numbers.1),
       waiting_room (counts_of args.book.now) args.book.now args.s.0 args.from.0 _
-          (and_right (lib.Dec.leb (seen args.book.now args.d.0 args.s.0 args.from.0) end) _ (parts_fit_law c.before.before.before.before.before.before)),
+          (and_right (lib.Dec.leb (seen args.book.now args.d.0 args.s.0 args.from.0) end) _ (parts_fit_law c.before.before.before.before.before)),
     )
 
 pub returns : goal.returns

@@ -26,10 +26,10 @@ pub is_beat-beat-requires : goal.is_beat-beat-requires
 is_beat-beat-requires c = let h = limits c in (search rules, search rules, omega (arith, h.0, h.1))
 
 pub stamp_of-stamp-requires : goal.stamp_of-stamp-requires
-stamp_of-stamp-requires c = let h = limits c.before.before in (search rules, search rules, omega (arith, h.0, h.1), search rules)
+stamp_of-stamp-requires c = let h = limits c.before in (search rules, search rules, omega (arith, h.0, h.1), search rules)
 
 pub move_on-requires : goal.move_on-requires
-move_on-requires c = let h = limits c.before.before.before.before.before.before.before.before in (search rules, search rules, h.0, h.1)
+move_on-requires c = let h = limits c.before.before.before.before.before.before.before in (search rules, search rules, h.0, h.1)
 
 pub returns : goal.returns
 returns c =

@@ -70,33 +70,33 @@ roomy_said c =
     c.is_roomy.ensures ∙ ap (λ (n : Counts). roomy n.depots args.d.0 args.s.0 args.book.now) c.counts_of-n.ensures
 
 pub counts_of-n-requires : goal.counts_of-n-requires
-counts_of-n-requires c = (base c.before.before).full
+counts_of-n-requires c = (base c.before).full
 
 pub tick_parts_fit-requires : goal.tick_parts_fit-requires
 tick_parts_fit-requires c =
-    let w = base c.before.before.before in
+    let w = base c.before.before in
     (w.full, subst Within (sym c.counts_of-n.ensures) w.within, lt_of_lt_of_le c.requires.1 w.within.depots, lt_of_lt_of_le c.requires.2 w.within.shelves)
 
 pub returns-then-not-tick_parts_fit : goal.returns-then-not-tick_parts_fit
 unfolding number_of paper
 returns-then-not-tick_parts_fit c =
-    let e = tick_book_law _ _ _ c.requires.0 c.requires.1 c.requires.2 (test_failed (parts_said c.before.before) c.if-not-tick_parts_fit.true-raw) in
+    let e = tick_book_law _ _ _ c.requires.0 c.requires.1 c.requires.2 (test_failed (parts_said c.before) c.if-not-tick_parts_fit.true-raw) in
     record { answer = by_refusal BadBook _ e; book = after_refused BadBook _ _ e }
 
 pub clock_of-clock-requires : goal.clock_of-clock-requires
 clock_of-clock-requires c =
-    let w = base c.before.before.before.before.before in
+    let w = base c.before.before.before.before in
     (w.full, lt_of_lt_of_le c.requires.1 w.within.depots, lt_of_lt_of_le c.requires.2 w.within.shelves)
 
 pub returns-then-clock-ge-END : goal.returns-then-clock-ge-END
 unfolding number_of paper
 returns-then-clock-ge-END c =
-    let e = tick_end _ _ _ (fits c.before.before.before) c.requires.1 c.requires.2 (subst (λ (x : ℕ). end ≤ x) c.clock_of-clock.ensures c.if-clock-ge-END.true) in
+    let e = tick_end _ _ _ (fits c.before.before) c.requires.1 c.requires.2 (subst (λ (x : ℕ). end ≤ x) c.clock_of-clock.ensures c.if-clock-ge-END.true) in
     record { answer = by_refusal ClockAtEnd _ e; book = after_refused ClockAtEnd _ _ e }
 
 pub is_roomy-requires : goal.is_roomy-requires
 is_roomy-requires c =
-    let w = base c.before.before.before.before.before.before.before in (
+    let w = base c.before.before.before.before.before.before in (
       w.full,
       subst (λ (n : Counts). n.depots ≤ 4) (sym c.counts_of-n.ensures) w.within.depots,
       lt_of_lt_of_le c.requires.1 w.within.depots,
@@ -106,15 +106,15 @@ is_roomy-requires c =
 pub returns-then-not-is_roomy : goal.returns-then-not-is_roomy
 unfolding number_of paper
 returns-then-not-is_roomy c =
-    let e = tick_full _ _ _ (fits c.before.before.before.before.before) c.requires.1 c.requires.2 (early c.before.before.before) (test_failed (roomy_said c.before.before) c.if-not-is_roomy.true-raw) in
+    let e = tick_full _ _ _ (fits c.before.before.before.before) c.requires.1 c.requires.2 (early c.before.before) (test_failed (roomy_said c.before) c.if-not-is_roomy.true-raw) in
     record { answer = by_refusal LinkFull _ e; book = after_refused LinkFull _ _ e }
 
 pub send-requires : goal.send-requires
 send-requires c =
     let counts = c.counts_of-n.ensures in
     let book = c.args.book.now in
-    let w = base c.before.before.before.before.before.before.before.before.before.before.before in
-    let room = test_passed (roomy_said c.before.before.before.before) c.if-not-is_roomy.false-raw in (
+    let w = base c.before.before.before.before.before.before.before.before.before.before in
+    let room = test_passed (roomy_said c.before.before.before) c.if-not-is_roomy.false-raw in (
       w.full,
       refl,
       subst (λ (n : Counts). Free n.depots c.args.d.0 c.args.s.0 book) (sym counts)

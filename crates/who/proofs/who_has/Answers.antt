@@ -73,7 +73,7 @@ unfolding number_of
 returns-then-not-base_fits c = who_refused _ _ _ BadBook (who_book _ _ _ (test_failed c.base_fits.ensures c.if-not-base_fits.true-raw))
 
 pub counts_of-n-requires : goal.counts_of-n-requires
-counts_of-n-requires c = (based c).full
+counts_of-n-requires c = (based c.before).full
 
 pub returns-in_default : goal.returns-in_default
 unfolding number_of
@@ -94,7 +94,7 @@ returns-in_default-checked c =
 pub stores_fit-requires : goal.stores_fit-requires
 stores_fit-requires c =
     let w = based c.before.before.before.before.before.before.before.before.before.before in
-    let known = bearing_known c in (
+    let known = bearing_known c.before in (
       w.full,
       subst (λ (n : Counts). n.depots ≤ 4) (sym c.counts_of-n.ensures) w.within.depots,
       subst (λ (k : ℕ). k < 160) known.1 (lt_of_lt_of_le known.0 w.within.bearings),

@@ -221,51 +221,51 @@ may c =
     }
 
 pub counts_of-n-requires : goal.counts_of-n-requires
-counts_of-n-requires c = (base c.before.before).full
+counts_of-n-requires c = (base c.before).full
 
 pub home_depot-d-requires : goal.home_depot-d-requires
 home_depot-d-requires c =
-    let w = base c.before.before.before in (
+    let w = base c.before.before in (
       w.full,
       lt_of_lt_of_le c.requires.1 w.within.crews,
       subst (λ (n : Counts). home c.args.book.now c.args.c.0 < n.depots) (sym c.counts_of-n.ensures) (w.homes _ c.requires.1),
     )
 
 pub shelf_for-s-requires : goal.shelf_for-s-requires
-shelf_for-s-requires c = subst (λ (n : Counts). 0 < n.shelves) (sym c.counts_of-n.ensures) (base c.before.before.before.before).within.shelf
+shelf_for-s-requires c = subst (λ (n : Counts). 0 < n.shelves) (sym c.counts_of-n.ensures) (base c.before.before.before).within.shelf
 
 pub write_parts_fit-requires : goal.write_parts_fit-requires
 write_parts_fit-requires c =
-    let w = base c.before.before.before.before.before in
+    let w = base c.before.before.before.before in
     let h = small c in
     (w.full, subst Within (sym c.counts_of-n.ensures) w.within, h.2, h.4, h.0, h.1)
 
 pub returns-then-not-write_parts_fit : goal.returns-then-not-write_parts_fit
 unfolding number_of paper_write
 returns-then-not-write_parts_fit c =
-    let e = write_book_law _ _ _ _ c.requires.0 c.requires.1 c.requires.2 (test_failed (parts_said c.before.before) c.if-not-write_parts_fit.true-raw) in
+    let e = write_book_law _ _ _ _ c.requires.0 c.requires.1 c.requires.2 (test_failed (parts_said c.before) c.if-not-write_parts_fit.true-raw) in
     record { answer = by_refusal BadBook _ e; book = after_refused BadBook _ _ e }
 
 pub returns-then-payload-gt-LAST_DAY : goal.returns-then-payload-gt-LAST_DAY
 unfolding number_of paper_write
 returns-then-payload-gt-LAST_DAY c =
-    let start = begin c.before.before.before in
-    let e = write_date _ _ _ _ (fits c.before.before.before) start.pre.1 start.pre.2 c.if-payload-gt-LAST_DAY.true in
+    let start = begin c.before.before in
+    let e = write_date _ _ _ _ (fits c.before.before) start.pre.1 start.pre.2 c.if-payload-gt-LAST_DAY.true in
     record { answer = by_refusal BadDate _ e; book = after_refused BadDate _ _ e }
 
 pub returns-in_default : goal.returns-in_default
 unfolding number_of paper_write
 returns-in_default c =
-    let start = begin (parts c.before.before.before.before) in
+    let start = begin (parts c.before.before.before) in
     let none = bad_tells _ _ (sym c.card_of.ensures ∙ c.in_default.is) in
-    let e = write_card _ _ _ _ (fits (parts c.before.before.before.before)) start.pre.1 start.pre.2 (dated c.before.before.before.before) none in
+    let e = write_card _ _ _ _ (fits (parts c.before.before.before)) start.pre.1 start.pre.2 (dated c.before.before.before) none in
     record { answer = by_refusal BadCard _ e; book = after_refused BadCard _ _ e }
 
 pub clock_of-clock-requires : goal.clock_of-clock-requires
-clock_of-clock-requires c = let h = small (parts (day c.before.before)).before.before.before in ((base (begin (parts (day c.before.before)))).full, h.0, h.1)
+clock_of-clock-requires c = let h = small (parts (day c.before)).before.before.before in ((base (begin (parts (day c.before)))).full, h.0, h.1)
 
 pub crew_at-requires : goal.crew_at-requires
-crew_at-requires c = (small (parts (day c.before.before.before)).before.before.before).2
+crew_at-requires c = (small (parts (day c.before.before)).before.before.before).2
 
 pub overflow_add-crew_at : goal.overflow_add-crew_at
 overflow_add-crew_at c = let h = small (parts (day (card c))).before.before.before in omega (arith, h.0, h.2, c.index.ensures, c.crew_at.ensures)
@@ -300,25 +300,25 @@ returns-then-clock-ge-END c =
 
 pub is_roomy-requires : goal.is_roomy-requires
 is_roomy-requires c =
-    let shelf = (parts (day (card (index c.before.before.before)))).before.before.before in
+    let shelf = (parts (day (card (index c.before.before)))).before.before.before in
     let h = small shelf in
     ((base shelf.before.before.before.before.before.before).full, h.3, h.0, h.1)
 
 pub returns-then-not-is_roomy : goal.returns-then-not-is_roomy
 unfolding number_of paper_write
 returns-then-not-is_roomy c =
-    let known = card (index c.before.before.before.before.before) in
+    let known = card (index c.before.before.before.before) in
     let start = begin (parts (day known)) in
-    let full = test_failed (roomy_said c.before.before) c.if-not-is_roomy.true-raw in
+    let full = test_failed (roomy_said c.before) c.if-not-is_roomy.true-raw in
     let e =
-    write_full _ _ _ _ (fits (parts (day known))) start.pre.1 start.pre.2 (dated (day known)) (carded known) (told_no_wait c.before.before.before.before) (told_early c.before.before.before) full in
+    write_full _ _ _ _ (fits (parts (day known))) start.pre.1 start.pre.2 (dated (day known)) (carded known) (told_no_wait c.before.before.before) (told_early c.before.before) full in
     record { answer = by_refusal LinkFull _ e; book = after_refused LinkFull _ _ e }
 
 pub overflow_add-clock : goal.overflow_add-clock
 overflow_add-clock c = let t = c.if-clock-ge-END.false in omega (arith, t)
 
 pub write_version-requires : goal.write_version-requires
-write_version-requires c = may c.before.before
+write_version-requires c = may c.before
 
 pub returns : goal.returns
 returns c =

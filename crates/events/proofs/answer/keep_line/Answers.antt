@@ -16,7 +16,7 @@ bounds-out-last c =
     omega (arith, w.after, c.requires.0)
 
 pub overflow_add-result : goal.overflow_add-result
-overflow_add-result c = let h = slice-write-out c in search rules
+overflow_add-result c = let h = slice-write-out c.before in search rules
 
 pub returns : goal.returns
 unfolding book_after_line answer_to record_to done_by

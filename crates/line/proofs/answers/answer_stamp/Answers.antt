@@ -42,10 +42,10 @@ pub overflow_add-last : goal.overflow_add-last
 overflow_add-last c = let h = inside c in search rules
 
 pub bounds-out-last : goal.bounds-out-last
-bounds-out-last c = let h = (left c.before.before).room in simp length-set (omega arith)
+bounds-out-last c = let h = (left c.before).room in simp length-set (omega arith)
 
 pub overflow_add-result : goal.overflow_add-result
-overflow_add-result c = let h = inside c.before.before in search rules
+overflow_add-result c = let h = inside c.before in search rules
 
 pub returns : goal.returns
 returns c = wrote_after 48 (wrote_then c.print_spaced-next.ensures (wrote_after 32 (wrote_byte_as _ _ c.standing_of.ensures)))

@@ -22,4 +22,4 @@ pub returns : goal.returns
 returns c = wrote_then c.print_numbers.ensures c.print_numbers.ensures
 
 pub shape_of-out : goal.shape_of-out
-shape_of-out c = wrote_length (returns c)
+shape_of-out c = wrote_length (returns c.before)

@@ -27,10 +27,10 @@ small c =
     value_small _ (c.loop-i.i - c.args.at) c.loop-i.invariant.2 (omega arith)
 
 pub overflow_mul-v : goal.overflow_mul-v
-overflow_mul-v c = let h = small c in omega arith
+overflow_mul-v c = let h = small c.before in omega arith
 
 pub overflow_add-v : goal.overflow_add-v
-overflow_add-v c = let h = small c in omega arith
+overflow_add-v c = let h = small c.before in omega arith
 
 pub loop-i-preserved : goal.loop-i-preserved
 loop-i-preserved c =

@@ -33,7 +33,7 @@ returns-then-not-base_fits c =
     asked_book args.book.now _ _ (test_failed c.base_fits.ensures c.if-not-base_fits.true-raw)
 
 pub counts_of-n-requires : goal.counts_of-n-requires
-counts_of-n-requires c = (base_open _ (base_book c)).full
+counts_of-n-requires c = (base_open _ (base_book c.before)).full
 
 pub returns-in_default : goal.returns-in_default
 unfolding AskChecked number_of

@@ -43,7 +43,7 @@ returns-then-not-base_fits c =
     link_book args.book.now _ _ _ (test_failed c.base_fits.ensures c.if-not-base_fits.true-raw)
 
 pub counts_of-n-requires : goal.counts_of-n-requires
-counts_of-n-requires c = (base_open _ (base_book c)).full
+counts_of-n-requires c = (base_open _ (base_book c.before)).full
 
 pub returns-in_default : goal.returns-in_default
 unfolding LinkChecked number_of

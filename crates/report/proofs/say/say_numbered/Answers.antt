@@ -27,7 +27,7 @@ bounds-out-last c =
     )
 
 pub overflow_add-result : goal.overflow_add-result
-overflow_add-result c = let h = slice-write-out c in search rules
+overflow_add-result c = let h = slice-write-out c.before in search rules
 
 pub shape_of-out : goal.shape_of-out
 shape_of-out c = simp length-set (c.print_number-last.auto.out ∙ c.print_text-next.auto.out)

@@ -39,8 +39,8 @@ kept_below c =
 
 pub sweep-kept-requires : goal.sweep-kept-requires
 sweep-kept-requires c =
-    let link = sound c.before.before.before.before in
-    let numbers = limits c.before.before in (
+    let link = sound c.before.before.before in
+    let numbers = limits c.before in (
       search rules,
       search rules,
       search rules,
@@ -55,24 +55,24 @@ overflow_sub-gone c = kept_below c.before.before.before
 
 pub close_up-requires : goal.close_up-requires
 close_up-requires c =
-    let numbers = limits c.before.before.before.before.before.before in
-    let kept = kept_below c.before.before.before.before in
+    let numbers = limits c.before.before.before.before.before in
+    let kept = kept_below c.before.before.before in
     (search rules, search rules, omega (arith, numbers.0, numbers.1, kept), omega (arith, numbers.0, numbers.1))
 
 pub overflow_sub-held : goal.overflow_sub-held
 overflow_sub-held c =
-    let numbers = limits c.before.before.before.before.before.before.before.before.before.before in
-    omega (arith, numbers.0, numbers.1, kept_below c.before.before.before.before.before.before.before.before)
+    let numbers = limits c.before.before.before.before.before.before.before.before.before in
+    omega (arith, numbers.0, numbers.1, kept_below c.before.before.before.before.before.before.before)
 
 pub word-requires : goal.word-requires
 word-requires c =
-    let numbers = limits c.before.before.before.before.before.before.before.before.before.before in
-    omega (arith, numbers.0, numbers.1, kept_below c.before.before.before.before.before.before.before.before)
+    let numbers = limits c.before.before.before.before.before.before.before.before.before in
+    omega (arith, numbers.0, numbers.1, kept_below c.before.before.before.before.before.before.before)
 
 pub word-requires-2 : goal.word-requires-2
 word-requires-2 c =
-    let numbers = limits c.before.before.before.before.before.before.before.before.before.before.before in
-    omega (arith, numbers.0, numbers.1, kept_below c.before.before.before.before.before.before.before.before.before)
+    let numbers = limits c.before.before.before.before.before.before.before.before.before.before in
+    omega (arith, numbers.0, numbers.1, kept_below c.before.before.before.before.before.before.before.before)
 
 pub returns : goal.returns
 returns c =
