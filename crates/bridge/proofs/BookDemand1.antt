@@ -43,7 +43,7 @@ use Rattle.bridge.proofs.Followed.{followed}
 
 module _ (π : model.Counts) where
   acted_home : (σ : State) (q : Call) (c : ℕ) → ((d : ℕ) → q ≡ move c d → ⊥) → (acted π σ q).state.home c ≡ σ.home c
-  unfolding acted reading listing paged rules.send rules.emit rules.settle rules.keep model.setShelf model.setCrew model.setHome
+  unfolding acted reading listing paged rules.send rules.emit rules.settle rules.keep model.set_shelf model.set_crew model.set_home
   acted_home σ (read b k) c n = refl
   acted_home σ (write b k payload) c n = refl
   acted_home σ (tick d s) c n = refl
@@ -83,7 +83,7 @@ read_tells l F c k e =
 
 -- ---- the demand
 
-pub book_demand1 : (l : List ℕ) (n : Counts) (homes : List ℕ) → table.setupNumber l n homes ≡ 0 → Demand1 n homes
+pub book_demand1 : (l : List ℕ) (n : Counts) (homes : List ℕ) → table.setup_number l n homes ≡ 0 → Demand1 n homes
 unfolding after
 book_demand1 l n homes done = record {
   fits = λ h. (followed l n homes done h).fits;

@@ -78,7 +78,7 @@ module _ (π : Counts) (σ : State) (l : List ℕ) (A : Agrees π σ l) where
   housed : (c : ℕ) → c < π.crews → σ.home c < π.depots
   housed c hc = subst (λ d. d < π.depots) (sym (home_by π σ l A c hc)) (home_below_by π σ l A c hc)
 
-module _ (l₀ : List ℕ) (n : book.Counts) (homes : List ℕ) (done : table.setupNumber l₀ n homes ≡ 0) where
+module _ (l₀ : List ℕ) (n : book.Counts) (homes : List ℕ) (done : table.setup_number l₀ n homes ≡ 0) where
   pub agrees_start : Agrees (to_model n) (fresh homes) (set_up n homes)
   agrees_start =
       let u = setup_open l₀ n homes done in
@@ -100,7 +100,7 @@ module _ (l₀ : List ℕ) (n : book.Counts) (homes : List ℕ) (done : table.se
   by_list σ q c k ks e m p = let w = list_passed π σ c ks (subst (λ q. refusal π σ q ≡ 0) e p) in (w.crew, listed_below π.bearings k ks w.below m)
 
   -- a list that the model does, the book does
-  done_list : (l : List ℕ) (σ : State) → Agrees π σ l → (q : Call) (c : ℕ) (ks : List ℕ) → q ≡ list c ks → refusal π σ q ≡ 0 → table.listNumber l c ks ≡ 0
+  done_list : (l : List ℕ) (σ : State) → Agrees π σ l → (q : Call) (c : ℕ) (ks : List ℕ) → q ≡ list c ks → refusal π σ q ≡ 0 → table.list_number l c ks ≡ 0
   unfolding number_at
   done_list l σ A q c ks e p = number_by π σ l A (list c ks) ∙ subst (λ q. refusal π σ q ≡ 0) e p
 

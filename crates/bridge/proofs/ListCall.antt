@@ -69,8 +69,8 @@ below_same : (n : ℕ) (ks : List ℕ) → all_below n ks ≡ calls.all_below n 
 unfolding all_below
 below_same n ks = together _ _ (λ h. each_below n ks (every_at (length ks) _ h)) (λ h. every_intro (length ks) _ (below_each n ks h))
 
-pub list_number_law : (l : List ℕ) → fit l ≡ true → (c : ℕ) (ks : List ℕ) → table.listNumber l c ks ≡ calls.refusal (counts_in l) (view l) (list c ks)
-unfolding table.listNumber first calls.refusal is_list calls.within
+pub list_number_law : (l : List ℕ) → fit l ≡ true → (c : ℕ) (ks : List ℕ) → table.list_number l c ks ≡ calls.refusal (counts_in l) (view l) (list c ks)
+unfolding table.list_number first calls.refusal is_list calls.within
 list_number_law l F c ks =
     pick_false _ _ (fit_passes (fit_list l F c ks))
     ∙ ap (λ (b : Bool). pick (leb (counts_in l).crews c) 5 (pick (not (is_list ks)) 15 (pick (not b) 4 0))) (below_same (counts_in l).bearings ks)
@@ -143,14 +143,14 @@ module _ (l : List ℕ) (F : fit l ≡ true) (c : ℕ) (ks : List ℕ) (o : List
             ∙ ap₂ max (ap (λ (y : ℕ). get_or (times i (λ s u. merged_at (counts_in l).depots (home l c) (stable l (home l c) s) 0 u) (four_of (crew_vector l c))) y 0) (zero-add x) ∙ h.1) (sym (stable_here i x k kx)),
       )
 
-  offered : (x : ℕ) → x < (counts_in l).depots → (x ≡ home l c → ⊥) → words.pageVector l c x ≡ model_vector (home l c) x
-  unfolding words.pageVector words.gatheredFrom model_vector
+  offered : (x : ℕ) → x < (counts_in l).depots → (x ≡ home l c → ⊥) → words.page_vector l c x ≡ model_vector (home l c) x
+  unfolding words.page_vector words.gathered_from model_vector
   offered x kx f = (gathers x kx f (counts_in l).shelves (le_refl _)).1
 
   -- ---- every home shelf settled
 
   abbrev turns : ℕ → List ℕ
-  turns i = times i (page_turn (counts_in l).depots (home l c) (words.pageVector l c)) l
+  turns i = times i (page_turn (counts_in l).depots (home l c) (words.page_vector l c)) l
 
   whole : (i : ℕ) → i ≤ (counts_in l).shelves → Whole (counts_of l) (turns i)
   unfolding times
@@ -158,7 +158,7 @@ module _ (l : List ℕ) (F : fit l ≡ true) (c : ℕ) (ks : List ℕ) (o : List
   whole (suc i) k =
       let W = whole i (omega arith) in
       keeps_whole (counts_of l) (turns i) _
-      (settled_settles (counts_of l) (turns i) W.within W.full (home l c) i (words.pageVector l c) kd k (λ from z f. W.parts.links i from (home l c) k z kd f) (offers l c ks o)).keeps
+      (settled_settles (counts_of l) (turns i) W.within W.full (home l c) i (words.page_vector l c) kd k (λ from z f. W.parts.links i from (home l c) k z kd f) (offers l c ks o)).keeps
       W
 
   sounds : (i : ℕ) → i ≤ (counts_in l).shelves → Sound (counts_in l) (turns i)
@@ -168,32 +168,32 @@ module _ (l : List ℕ) (F : fit l ≡ true) (c : ℕ) (ks : List ℕ) (o : List
   unfolding times
   paged_view zero k = unfold view in refl
   paged_view (suc i) k =
-      settled_view (counts_in l) (turns i) (sounds i (omega arith)) (home l c) i kd k (words.pageVector l c) (model_vector (home l c)) (λ x z. offered x z.below z.apart)
+      settled_view (counts_in l) (turns i) (sounds i (omega arith)) (home l c) i kd k (words.page_vector l c) (model_vector (home l c)) (λ x z. offered x z.below z.apart)
       ∙ ap (settle (counts_in l) (home l c) i (model_vector (home l c))) (paged_view i (omega arith))
 
   pages_below : (i : ℕ) → i ≤ (counts_in l).shelves → (j : ℕ) → j < 84 → get_or (turns i) j 0 ≡ get_or l j 0
   unfolding times
   pages_below zero k j h = refl
   pages_below (suc i) k j h =
-      settled_below (counts_in l) (turns i) (sounds i (omega arith)) (home l c) i kd k (words.pageVector l c) (words.pageVector l c) (λ x y. refl) j h
+      settled_below (counts_in l) (turns i) (sounds i (omega arith)) (home l c) i kd k (words.page_vector l c) (words.page_vector l c) (λ x y. refl) j h
       ∙ pages_below i (omega arith) j h
 
   m : List ℕ
-  m = words.pageBook l c
+  m = words.page_book l c
 
   paged_by : ℕ → State
   paged_by e = times (counts_in l).shelves (λ s τ. settle (counts_in l) e s (model_vector e) τ) (view l)
 
   paged_here : view_by (counts_in l) m ≡ paged_by (home l c)
-  unfolding m words.pageBook words.settledAll paged_by
+  unfolding m words.page_book words.settled_all paged_by
   paged_here = paged_view (counts_in l).shelves (le_refl _)
 
   m_sound : Sound (counts_in l) m
-  unfolding m words.pageBook words.settledAll
+  unfolding m words.page_book words.settled_all
   m_sound = sounds (counts_in l).shelves (le_refl _)
 
   m_below : (j : ℕ) → j < 84 → get_or m j 0 ≡ get_or l j 0
-  unfolding m words.pageBook words.settledAll
+  unfolding m words.page_book words.settled_all
   m_below = pages_below (counts_in l).shelves (le_refl _)
 
   -- what a home shelf then stores of a bearing
@@ -248,8 +248,8 @@ module _ (l : List ℕ) (F : fit l ≡ true) (c : ℕ) (ks : List ℕ) (o : List
   beyond x h zero = refl
   beyond x h (suc i) = ap₂ max (beyond x h i) (version_beyond (counts_in l).depots (stored m (home l c) (get_or ks i 0)) x h)
 
-  raised_crew : entries_at (counts_in l).depots (words.listBook l c ks) (crew_at c) ≡ gathered_by (home l c)
-  unfolding entries_at words.listBook words.mergedAll m view
+  raised_crew : entries_at (counts_in l).depots (words.list_book l c ks) (crew_at c) ≡ gathered_by (home l c)
+  unfolding entries_at words.list_book words.merged_all m view
   raised_crew = fun_ext λ x.
       ⊎_elim
       (λ (e : ltb x (counts_in l).depots ≡ true). pick_true _ _ e ∙ merges_entry x (ltb-true x _ e) (length ks) (le_refl _) ∙ sym (gathered_here x))
@@ -260,16 +260,16 @@ module _ (l : List ℕ) (F : fit l ≡ true) (c : ℕ) (ks : List ℕ) (o : List
       ∙ beyond x (ltb-false x _ e) (length ks)))
       (decided (ltb x (counts_in l).depots))
 
-  crewed : view_by (counts_in l) (words.listBook l c ks) ≡ set_crew c (gathered_by (home l c)) (view_by (counts_in l) m)
-  unfolding words.listBook words.mergedAll m
+  crewed : view_by (counts_in l) (words.list_book l c ks) ≡ set_crew c (gathered_by (home l c)) (view_by (counts_in l) m)
+  unfolding words.list_book words.merged_all m
   crewed =
       let a = S.small.depots in let b = S.small.crews in let g = o.crew in
-      crew_view (counts_in l) m (words.listBook l c ks) (merges_size (length ks)) (λ j h. merges_off (length ks) j (λ p q. omega arith)) c _ a b o.crew
+      crew_view (counts_in l) m (words.list_book l c ks) (merges_size (length ks)) (λ j h. merges_off (length ks) j (λ p q. omega arith)) c _ a b o.crew
       (λ j x y. merges_off (length ks) j (λ p q. omega arith)) (λ j x out. merges_off (length ks) j (λ p q. out p (omega arith))) raised_crew
 
-  counted : counts_in (words.listBook l c ks) ≡ counts_in l
-  unfolding words.listBook words.mergedAll m
-  counted = counts_same l (words.listBook l c ks) λ j h. merges_off (length ks) j (λ p q. omega arith) ∙ m_below j (omega arith)
+  counted : counts_in (words.list_book l c ks) ≡ counts_in l
+  unfolding words.list_book words.merged_all m
+  counted = counts_same l (words.list_book l c ks) λ j h. merges_off (length ks) j (λ p q. omega arith) ∙ m_below j (omega arith)
 
   -- what the model leaves, and what it answers, with the home depot e
   left_by_law : ℕ → State
@@ -278,12 +278,12 @@ module _ (l : List ℕ) (F : fit l ≡ true) (c : ℕ) (ks : List ℕ) (o : List
   told_by : ℕ → List Told
   told_by e = map (λ k. calls.told (counts_in l).depots (((paged_by e).shelf e (k % (counts_in l).shelves)).store k)) ks
 
-  leaves : view (words.listBook l c ks) ≡ (calls.acted (counts_in l) (view l) (list c ks)).state
-  unfolding calls.acted calls.listing calls.paged calls.pageVector calls.shelfOf left_by_law gathered_by paged_by model_vector
-  leaves = view_by_law l (words.listBook l c ks) counted ∙ crewed ∙ ap (set_crew c (gathered_by (home l c))) paged_here ∙ ap left_by_law (sym at_home)
+  leaves : view (words.list_book l c ks) ≡ (calls.acted (counts_in l) (view l) (list c ks)).state
+  unfolding calls.acted calls.listing calls.paged calls.page_vector calls.shelf_of left_by_law gathered_by paged_by model_vector
+  leaves = view_by_law l (words.list_book l c ks) counted ∙ crewed ∙ ap (set_crew c (gathered_by (home l c))) paged_here ∙ ap left_by_law (sym at_home)
 
-  tells_same : listed (words.pageTold l c ks) ≡ (calls.acted (counts_in l) (view l) (list c ks)).answer
-  unfolding calls.acted calls.listing calls.paged calls.pageVector calls.shelfOf told_by paged_by model_vector words.pageTold m
+  tells_same : listed (words.page_told l c ks) ≡ (calls.acted (counts_in l) (view l) (list c ks)).answer
+  unfolding calls.acted calls.listing calls.paged calls.page_vector calls.shelf_of told_by paged_by model_vector words.page_told m
   tells_same =
       ap listed
       (map_alike _ _ ks (λ i k.
@@ -292,18 +292,18 @@ module _ (l : List ℕ) (F : fit l ≡ true) (c : ℕ) (ks : List ℕ) (o : List
       ∙ ap told_by (sym at_home))
 
   -- the version that a list answers with for a bearing
-  pub on_page_here : (k : ℕ) → k < (counts_in l).bearings → version_of (counts_in l).depots (stored (words.pageBook l c) (home l c) k) ≡ calls.onPage (counts_in l) c k (view l)
-  unfolding calls.onPage calls.paged calls.pageVector calls.shelfOf paged_by model_vector m
+  pub on_page_here : (k : ℕ) → k < (counts_in l).bearings → version_of (counts_in l).depots (stored (words.page_book l c) (home l c) k) ≡ calls.on_page (counts_in l) c k (view l)
+  unfolding calls.on_page calls.paged calls.page_vector calls.shelf_of paged_by model_vector m
   on_page_here k kk = sym (store_here k kk) ∙ ap (λ (e : ℕ). ((paged_by e).shelf e (k % (counts_in l).shelves)).store k) (sym at_home)
 
 module _ (l : List ℕ) (F : fit l ≡ true) (c : ℕ) (ks : List ℕ) where
-  does : table.listNumber l c ks ≡ 0 → Does l (list c ks) (words.listBook l c ks)
+  does : table.list_number l c ks ≡ 0 → Does l (list c ks) (words.list_book l c ks)
   does z =
       let o = list_done l c ks z in
       record { leaves = leaves l F c ks o; counts = counted l F c ks o; fits = keeps_fit l _ (list_settles l c ks z).keeps F }
 
   pub list_bridge :
-      (a : Answer) (l' : List ℕ) → a ≡ answer_by (table.listNumber l c ks) (listed (words.pageTold l c ks)) → l' ≡ after (table.listNumber l c ks) (words.listBook l c ks) l →
+      (a : Answer) (l' : List ℕ) → a ≡ answer_by (table.list_number l c ks) (listed (words.page_told l c ks)) → l' ≡ after (table.list_number l c ks) (words.list_book l c ks) l →
       Bridged l (list c ks) a l'
   list_bridge a l' answer book =
-      bridged l F (list c ks) (table.listNumber l c ks) (list_number_law l F c ks) (words.listBook l c ks) does a _ l' answer (λ z. tells_same l F c ks (list_done l c ks z)) book
+      bridged l F (list c ks) (table.list_number l c ks) (list_number_law l F c ks) (words.list_book l c ks) does a _ l' answer (λ z. tells_same l F c ks (list_done l c ks z)) book

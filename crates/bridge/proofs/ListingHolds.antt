@@ -27,8 +27,8 @@ use Rattle.bridge.proofs.Agrees.{Agrees, stable_by}
 use Rattle.bridge.proofs.Followed.{agrees_start, replies_model, last_model}
 
 module _ (l : List ℕ) (full : length l ≡ book_words) where
-  pub set : table.setupNumber l counts homes ≡ 0
-  unfolding table.setupNumber first counts homes counts_fit between pick every
+  pub set : table.setup_number l counts homes ≡ 0
+  unfolding table.setup_number first counts homes counts_fit between pick every
   set = ap (λ (b : Bool). pick (not b) 1 0) (eq-eqb (length l) book_words full)
 
   start : Agrees (to_model counts) (fresh homes) (set_up counts homes)
@@ -42,7 +42,7 @@ module _ (l : List ℕ) (full : length l ≡ book_words) where
   unfolding reply_to answer_by number_at done_answer pick
   set_reply = ap (λ (k : ℕ). answer_by k done) set
 
-  listed_lines : replies l (setup counts homes ∷ map call cases.listing) ≡ done ∷ cases.listingAnswers
+  listed_lines : replies l (setup counts homes ∷ map call cases.listing) ≡ done ∷ cases.listing_answers
   unfolding replies counts homes cases.counts cases.homes
   listed_lines =
       ap₂ (λ (x : Answer) (y : List Answer). x ∷ y) set_reply
@@ -58,8 +58,8 @@ module _ (l : List ℕ) (full : length l ≡ book_words) where
       ∙ replies_model (to_model counts) (fresh homes) (set_up counts homes) case_move start
       ∙ there_and_back)
 
-  stable_last : (calls : List Call) → stable (last l (setup counts homes ∷ map call calls)) 1 0 0 ≡ cases.stableAfter calls
-  unfolding last counts homes cases.counts cases.homes cases.stableAfter
+  stable_last : (calls : List Call) → stable (last l (setup counts homes ∷ map call calls)) 1 0 0 ≡ cases.stable_after calls
+  unfolding last counts homes cases.counts cases.homes cases.stable_after
   stable_last calls =
       ap (λ (b : List ℕ). stable (last b (map call calls)) 1 0 0) set_book
       ∙ sym (stable_by (to_model counts) _ _ (last_model (to_model counts) (fresh homes) (set_up counts homes) calls start) 1 0 0 (lit≤ tt) (lit≤ tt) (lit≤ tt))
@@ -68,7 +68,7 @@ module _ (l : List ℕ) (full : length l ≡ book_words) where
   unfolding lines_to_b lines move_lines
   listing_of_books = record {
     answers = listed_lines;
-    before = stable_last cases.listingToB ∙ case_c_before;
+    before = stable_last cases.listing_to_b ∙ case_c_before;
     after = stable_last cases.listing ∙ case_c_after;
     moved = moved_lines;
   }

@@ -66,8 +66,8 @@ module _ (l : List ℕ) (F : fit l ≡ true) (c d : ℕ) where
   arrived_here kc kd =
       covered_but (counts_in l).depots d _ _ _ _ (λ x k n. crew_agrees l F c 0 kc x k) (λ x k n. lowest_here (counts_in l) l d x kd (record { below = k; apart = n }))
 
-  pub move_number_law : table.moveNumber l c d ≡ calls.refusal (counts_in l) (view l) (move c d)
-  unfolding table.moveNumber first calls.refusal view
+  pub move_number_law : table.move_number l c d ≡ calls.refusal (counts_in l) (view l) (move c d)
+  unfolding table.move_number first calls.refusal view
   move_number_law =
       pick_false _ _ (fit_passes (fit_move l F c d))
       ∙ pick_else (leb (counts_in l).crews c) 5 λ kc. pick_else (leb (counts_in l).depots d) 2 λ kd.
@@ -75,7 +75,7 @@ module _ (l : List ℕ) (F : fit l ≡ true) (c d : ℕ) where
       ap (λ (b : Bool). pick (not b) 12 0)
       (ap₂ (λ (a b : Bool). a || b) (ap (eqb d) (sym (home_here (counts_in l) l c c<))) (arrived_here c< (leb-false _ d kd)))
 
-  does : table.moveNumber l c d ≡ 0 → Does l (move c d) (move_book l c d)
+  does : table.move_number l c d ≡ 0 → Does l (move c d) (move_book l c d)
   unfolding move_book calls.acted view number_at changed_by book_after after
   does z =
       let S = sound l F in
@@ -84,9 +84,9 @@ module _ (l : List ℕ) (F : fit l ≡ true) (c d : ℕ) where
       record {
         leaves = view_by_law l (move_book l c d) same ∙ home_view (counts_in l) l c d S.small.depots S.small.crews S.full o.crew;
         counts = same;
-        fits = subst (λ (m : List ℕ). fit m ≡ true) (pick_true _ _ (eq-eqb (table.moveNumber l c d) 0 z)) (request_fit l F (call (move c d)));
+        fits = subst (λ (m : List ℕ). fit m ≡ true) (pick_true _ _ (eq-eqb (table.move_number l c d) 0 z)) (request_fit l F (call (move c d)));
       }
 
-  pub move_bridge : (r : Answer) (l' : List ℕ) → r ≡ answer_by (table.moveNumber l c d) done → l' ≡ after (table.moveNumber l c d) (move_book l c d) l → Bridged l (move c d) r l'
+  pub move_bridge : (r : Answer) (l' : List ℕ) → r ≡ answer_by (table.move_number l c d) done → l' ≡ after (table.move_number l c d) (move_book l c d) l → Bridged l (move c d) r l'
   unfolding calls.acted
-  move_bridge r l' answer book = bridged_done l F (move c d) (table.moveNumber l c d) move_number_law (move_book l c d) does refl r l' answer book
+  move_bridge r l' answer book = bridged_done l F (move c d) (table.move_number l c d) move_number_law (move_book l c d) does refl r l' answer book

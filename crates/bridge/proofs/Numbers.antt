@@ -28,16 +28,16 @@ fit_passes {b = true} e = refl
 fit_passes {b = false} e = absurd (false≢true e)
 
 module _ (l : List ℕ) (F : fit l ≡ true) where
-  pub read_number_law : (c k : ℕ) → table.readNumber l c k ≡ calls.refusal (counts_in l) (view l) (read c k)
-  unfolding table.readNumber first calls.refusal
+  pub read_number_law : (c k : ℕ) → table.read_number l c k ≡ calls.refusal (counts_in l) (view l) (read c k)
+  unfolding table.read_number first calls.refusal
   read_number_law c k = pick_false _ _ (fit_passes (fit_read l F c k))
 
-  pub refresh_number_law : (d s : ℕ) → table.refreshNumber l d s ≡ calls.refusal (counts_in l) (view l) (refresh d s)
-  unfolding table.refreshNumber first calls.refusal
+  pub refresh_number_law : (d s : ℕ) → table.refresh_number l d s ≡ calls.refusal (counts_in l) (view l) (refresh d s)
+  unfolding table.refresh_number first calls.refusal
   refresh_number_law d s = pick_false _ _ (fit_passes (fit_refresh l F d s))
 
-  pub tick_number_law : (d s : ℕ) → table.tickNumber l d s ≡ calls.refusal (counts_in l) (view l) (tick d s)
-  unfolding table.tickNumber first calls.refusal view end shelf_at
+  pub tick_number_law : (d s : ℕ) → table.tick_number l d s ≡ calls.refusal (counts_in l) (view l) (tick d s)
+  unfolding table.tick_number first calls.refusal view end shelf_at
   tick_number_law d s =
       pick_false _ _ (fit_passes (fit_tick l F d s))
       ∙ pick_else (leb (counts_in l).depots d) 2 λ kd. pick_else (leb (counts_in l).shelves s) 3 λ ks.
@@ -47,8 +47,8 @@ module _ (l : List ℕ) (F : fit l ≡ true) where
       (ap (λ (h : Shelf). leb end h.clock) (sym (shelf_here (counts_in l) l d s d< s<) ∙ refl))
       (sym (roomy_here (counts_in l) l d s (sound l F) d< s<))
 
-  pub take_number_law : (d s from : ℕ) → table.takeNumber l d s from ≡ calls.refusal (counts_in l) (view l) (take d s from)
-  unfolding table.takeNumber first calls.refusal view
+  pub take_number_law : (d s from : ℕ) → table.take_number l d s from ≡ calls.refusal (counts_in l) (view l) (take d s from)
+  unfolding table.take_number first calls.refusal view
   take_number_law d s from =
       pick_false _ _ (fit_passes (fit_take l F d s from))
       ∙ pick_else (leb (counts_in l).depots d || leb (counts_in l).depots from) 2 λ kd. pick_else (leb (counts_in l).shelves s) 3 λ ks. pick_else (eqb d from) 6 λ apart.
@@ -77,8 +77,8 @@ module _ (l : List ℕ) (F : fit l ≡ true) where
       ap₂ (λ (u : ℕ → ℕ) (d : ℕ). u d) (crew_here (counts_in l) l c h) (home_here (counts_in l) l c h)
       ∙ pick_true _ _ (lt-ltb _ _ ((sound l F).homes c h))
 
-  pub write_number_law : (c k : ℕ) (payload : Payload) → table.writeNumber l c k payload ≡ calls.refusal (counts_in l) (view l) (write c k payload)
-  unfolding table.writeNumber first calls.refusal calls.shelfOf view end
+  pub write_number_law : (c k : ℕ) (payload : Payload) → table.write_number l c k payload ≡ calls.refusal (counts_in l) (view l) (write c k payload)
+  unfolding table.write_number first calls.refusal calls.shelf_of view end
   write_number_law c k payload =
       pick_false _ _ (fit_passes (fit_write l F c k))
       ∙ pick_else (leb (counts_in l).crews c) 5 λ kc. pick_else (leb (counts_in l).bearings k) 4 λ kk.

@@ -29,8 +29,8 @@ use Rattle.bridge.proofs.SettleView.{settled_view, settled_below}
 use Rattle.bridge.proofs.Assembly.{counts_same, view_by_law, Does, bridged_done}
 
 -- the lowest stamp seen, of another depot
-pub lowest_here : (π : Counts) (l : List ℕ) (d x : ℕ) → d < π.depots → Other π.depots d x → words.lowestSeen π.depots π.shelves d l x ≡ lowest_seen π d (view_by π l) x
-unfolding words.lowestSeen words.lowest lowest_seen lowest end other
+pub lowest_here : (π : Counts) (l : List ℕ) (d x : ℕ) → d < π.depots → Other π.depots d x → words.lowest_seen π.depots π.shelves d l x ≡ lowest_seen π d (view_by π l) x
+unfolding words.lowest_seen words.lowest lowest_seen lowest end other
 lowest_here π l d x kd o =
     pick_true _ _ (other_intro o)
     ∙ times_same π.shelves _ _ 2147483647 λ s m k. ap (λ (t : ℕ). min m t) (sym (ap (λ (h : Shelf). h.seen x) (shelf_here π l d s kd k) ∙ seen_here s))
@@ -45,7 +45,7 @@ module _ (l : List ℕ) (F : fit l ≡ true) (d s : ℕ) where
       let S = sound l F in
       let o = refresh_done l d s z in
       let π = counts_in l in
-      let u = words.lowestSeen π.depots π.shelves d l in
+      let u = words.lowest_seen π.depots π.shelves d l in
       let same : counts_in (refresh_book l d s) ≡ counts_in l
       = counts_same l (refresh_book l d s) (λ j k. settled_below π l S d s o.depot o.shelf u u (λ x y. refl) j (omega arith)) in
       record {

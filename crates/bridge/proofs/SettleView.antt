@@ -68,11 +68,11 @@ module _ (π : Counts) (l : List ℕ) (S : Sound π l) (d s : ℕ) (kd : d < π.
 
     size : length v ≡ length l
     unfolding v
-    size = frame.length-settled π.depots d s u l
+    size = frame.length_settled π.depots d s u l
 
     same : (j : ℕ) → (stable_at d s ≤ j → j < stable_at d s + 4 → ⊥) → frame.OffLinks π.depots d s j → (stored_at d 0 ≤ j → j < stored_at d 0 + 1440 → ⊥) → get_or v j 0 ≡ get_or l j 0
     unfolding v
-    same j x y z = let a = S.small.depots in frame.settled-off π.depots d s u l ready j (λ p q. x p (omega arith)) y z
+    same j x y z = let a = S.small.depots in frame.settled_off π.depots d s u l ready j (λ p q. x p (omega arith)) y z
 
     -- ---- the stable vector
 
@@ -80,7 +80,7 @@ module _ (π : Counts) (l : List ℕ) (S : Sound π l) (d s : ℕ) (kd : d < π.
     unfolding v show.settled
     raised_word x k =
         let a = S.small.depots in let b = S.small.shelves in
-        frame.shown_off π.depots d s (raised_book π.depots d s u l) (frame.raised-ready π.depots d s u l ready) (stable_at d s + x) (λ from z f. omega arith) (omega arith)
+        frame.shown_off π.depots d s (raised_book π.depots d s u l) (frame.raised_ready π.depots d s u l ready) (stable_at d s + x) (λ from z f. omega arith) (omega arith)
 
     raised_entry : (x : ℕ) → x < π.depots → get_or (raised_book π.depots d s u l) (stable_at d s + x) 0 ≡ raised π.depots d u' (entries_at π.depots l (stable_at d s)) x
     unfolding raised entries_at

@@ -37,8 +37,8 @@ passes : {b : Bool} → b ≡ true → not b ≡ false
 passes e = ap not e
 
 module _ (l : List ℕ) (full : length l ≡ book_words) (n : Counts) (homes : List ℕ) where
-  pub setup_number_law : table.setupNumber l n homes ≡ model.setup (to_model n) homes
-  unfolding table.setupNumber first model.setup model.within counts_fit between
+  pub setup_number_law : table.setup_number l n homes ≡ model.setup (to_model n) homes
+  unfolding table.setup_number first model.setup model.within counts_fit between
   setup_number_law =
       pick_false _ _ (passes (eq-eqb _ _ full))
       ∙ ap (λ (t : Bool). pick t 11 (pick (not (every n.crews (λ c. ltb (get_or homes c 0) n.depots))) 2 0))

@@ -36,8 +36,8 @@ pub record SetUp (l : List ℕ) (n : book.Counts) (homes : List ℕ) : Type 0 wh
   pub number : length homes ≡ n.crews
   pub below : every n.crews (λ c. ltb (get_or homes c 0) n.depots) ≡ true
 
-pub setup_open : (l : List ℕ) (n : book.Counts) (homes : List ℕ) → table.setupNumber l n homes ≡ 0 → SetUp l n homes
-unfolding table.setupNumber first
+pub setup_open : (l : List ℕ) (n : book.Counts) (homes : List ℕ) → table.setup_number l n homes ≡ 0 → SetUp l n homes
+unfolding table.setup_number first
 setup_open l n homes h =
     let a = first_zero _ 0 _ h in
     let b = first_zero _ 10 _ a.1 in

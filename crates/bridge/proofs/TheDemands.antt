@@ -31,7 +31,7 @@ use Rattle.bridge.proofs.DatesExist.{dates_exist}
 
 -- the desk's lines
 desk_as_model : (l : List ℕ) (n : Counts) (homes : List ℕ) → setup_number l n homes ≡ 0 → DeskAsModel n homes
-unfolding answer_to events.bookAfterLine reading_says reading_book event_says event_book after
+unfolding answer_to events.book_after_line reading_says reading_book event_says event_book after
 desk_as_model l n homes done = record {
   says = λ h line e ns q r a.
       ap (λ (x : Reading). reading_says (book_of n homes h) x ++ (line_feed ∷ [])) r
@@ -49,7 +49,7 @@ pub the_demands : (l : List ℕ) (n : Counts) (homes : List ℕ) → setup_numbe
 unfolding after
 the_demands l n homes done =
     let follows = book_follows l n homes done in
-    let others = transfer.demands_from follows (sound_by (to_model n) _ _ (agrees_start l n homes done)).small.shelf (met.the-demands (to_model n) homes (setup_model (setup_open l n homes done))) in
+    let others = transfer.demands_from follows (sound_by (to_model n) _ _ (agrees_start l n homes done)).small.shelf (met.the_demands (to_model n) homes (setup_model (setup_open l n homes done))) in
     record {
       first = book_demand1 l n homes done;
       as_model = record { numbers = λ h q. (transfer.alike follows h).number q; answers = λ h q. (transfer.alike follows h).answer q; leaves = λ h. (followed l n homes done h).views };

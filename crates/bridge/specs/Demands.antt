@@ -70,7 +70,7 @@ module _ (n : Counts) (homes : List ℕ) where
     pub says : (h : List Call) (line : List ℕ) (e : Event) (numbers : List ℕ) (q : Call) → reading line ≡ good e numbers → request_of e numbers ≡ call q
         → answer_to (book_of h) line ≡ printed (step (to_model n) (after (of_model (to_model n) homes) h) q).answer ++ (line_feed ∷ [])
     pub leaves : (h : List Call) (line : List ℕ) (e : Event) (numbers : List ℕ) (q : Call) → reading line ≡ good e numbers → request_of e numbers ≡ call q
-        → events.bookAfterLine (book_of h) line ≡ book_of (q ∷ h)
+        → events.book_after_line (book_of h) line ≡ book_of (q ∷ h)
 
   -- every date that is stored exists: after every history a bearing is unwritten at a depot, or its value has a date and the calendar answers it
   pub record DatesExist : Type 0 where

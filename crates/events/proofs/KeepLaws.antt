@@ -144,6 +144,6 @@ unfolding reading_done reading_book journal
 reading_journals l s bad p = journals_none l
 reading_journals l s (good e ns) p = event_journals l e ns (sized_words ns (read_says s e ns p).in_range)
 
-pub line_journals : (l s : List ℕ) → Journals l (done_by l s) (record_to l s) (answering.bookAfterLine l s)
-unfolding record_to done_by answering.bookAfterLine
+pub line_journals : (l s : List ℕ) → Journals l (done_by l s) (record_to l s) (answering.book_after_line l s)
+unfolding record_to done_by answering.book_after_line
 line_journals l s = reading_journals l s (reading s) refl

@@ -24,7 +24,7 @@ unfoldable pub event_says : List ℕ → Event → List ℕ → List ℕ
 event_says l e ns = printed (reply_to l (request_of e ns))
 
 unfoldable pub event_book : List ℕ → Event → List ℕ → List ℕ
-event_book l e ns = requests.bookAfter l (request_of e ns)
+event_book l e ns = requests.book_after l (request_of e ns)
 
 -- the same of what a line says; a bad line leaves the book alone
 unfoldable pub reading_says : List ℕ → Reading → List ℕ

@@ -78,19 +78,19 @@ module _ (l : List ℕ) (full : length l ≡ book_words) where
 
   -- the 30 of depot 0 is above what depot 1 stores at the listing's end, and no longer after (b)
   thirty_above : over_now listing_end 0 1 1 ≡ true
-  unfolding over_now ends_now dominates lawful cases.counts cases.homes cases.listingToB listing_end
+  unfolding over_now ends_now dominates lawful cases.counts cases.homes cases.listing_to_b listing_end
   thirty_above = lawful_agrees 2 _ _ ∙ refl
 
   twenty_same : over_now listing_end 0 0 1 ≡ false
-  unfolding over_now ends_now dominates lawful cases.counts cases.homes cases.listingToB listing_end
+  unfolding over_now ends_now dominates lawful cases.counts cases.homes cases.listing_to_b listing_end
   twenty_same = above_irrefl 2 _
 
   none_above : over_now listing_end 1 1 0 ≡ false
-  unfolding over_now ends_now dominates lawful cases.counts cases.homes cases.listingToB listing_end
+  unfolding over_now ends_now dominates lawful cases.counts cases.homes cases.listing_to_b listing_end
   none_above = above_unwritten 2 _ _ refl
 
-  thirty_same : over_now cases.listingToB 0 1 1 ≡ false
-  unfolding over_now ends_now dominates lawful cases.counts cases.homes cases.listingToB
+  thirty_same : over_now cases.listing_to_b 0 1 1 ≡ false
+  unfolding over_now ends_now dominates lawful cases.counts cases.homes cases.listing_to_b
   thirty_same = above_irrefl 2 _
 
   refused_as : (b : List ℕ) (d k : ℕ) {m : ℕ} → who_number b d k ≡ m → eqb m 0 ≡ false → who_told b d k ≡ refused m
@@ -103,7 +103,7 @@ module _ (l : List ℕ) (full : length l ≡ book_words) where
     twenty = told listing_end 0 0 (lit≤ tt) (lit≤ tt) (own_has 2 _ 0 0) (bit_now listing_end 0 0 1 (lit≤ tt) (lit≤ tt) (lit≤ tt) ∙ ap not twenty_same);
     thirty = told listing_end 0 1 (lit≤ tt) (lit≤ tt) (own_has 2 _ 0 1) (bit_now listing_end 0 1 1 (lit≤ tt) (lit≤ tt) (lit≤ tt) ∙ ap not thirty_above);
     unwritten = told listing_end 1 1 (lit≤ tt) (lit≤ tt) (bit_now listing_end 1 1 0 (lit≤ tt) (lit≤ tt) (lit≤ tt) ∙ ap not none_above) (own_has 2 _ 1 1);
-    shown = told cases.listingToB 0 1 (lit≤ tt) (lit≤ tt) (own_has 2 _ 0 1) (bit_now cases.listingToB 0 1 1 (lit≤ tt) (lit≤ tt) (lit≤ tt) ∙ ap not thirty_same);
+    shown = told cases.listing_to_b 0 1 (lit≤ tt) (lit≤ tt) (own_has 2 _ 0 1) (bit_now cases.listing_to_b 0 1 1 (lit≤ tt) (lit≤ tt) (lit≤ tt) ∙ ap not thirty_same);
     no_depot = refused_as _ 2 4 (who_depot _ 2 4 (fit_base _ (agrees listing_end).fits) (subst (λ (m : ℕ). m ≤ 2) (sym (two listing_end).0) (lit≤ tt))) refl;
     no_bearing = refused_as _ 1 4
         (who_key _ 1 4 (fit_base _ (agrees listing_end).fits) (subst (λ (m : ℕ). 1 < m) (sym (two listing_end).0) (lit≤ tt))

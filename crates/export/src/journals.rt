@@ -15,14 +15,14 @@ pub extern "C" fn depot_recorded(
     out: &mut [u32],
 ) -> u32
     ensures { recorder.left result book.new bytes.new out.new
-        ≡ recorder.leftBy kind numbers.now book.old bytes.old out.old }
+        ≡ recorder.left_by kind numbers.now book.old bytes.old out.old }
 {
     tell_recorded(book, kind, numbers, bytes, out)
 }
 
 #[unsafe(no_mangle)]
 pub extern "C" fn depot_recover(book: &mut [u32], bytes: &[u8], out: &mut [u64]) -> u32
-    ensures { recovery.left result book.new out.new ≡ recovery.leftBy bytes.now book.old out.old }
+    ensures { recovery.left result book.new out.new ≡ recovery.left_by bytes.now book.old out.old }
 {
     tell_recovered(book, bytes, out)
 }

@@ -160,7 +160,7 @@ pub extern "C" fn depot_greater(a: &[u32], b: &[u32], depots: u32) -> u32
 #[unsafe(no_mangle)]
 pub extern "C" fn depot_line(book: &mut [u32], line: &[u8], out: &mut [u8]) -> usize
     ensures value { result ≡ pick (leb answer_room (length out.old)) (length (answer_to book.old line.now)) 0 }
-    ensures book_after { book.new ≡ pick (leb answer_room (length out.old)) (events.bookAfterLine book.old line.now) book.old }
+    ensures book_after { book.new ≡ pick (leb answer_room (length out.old)) (events.book_after_line book.old line.now) book.old }
     ensures out_after { out.new
         ≡ pick (leb answer_room (length out.old)) (sets out.old 0 (answer_to book.old line.now)) out.old }
 {

@@ -101,4 +101,4 @@ module _ (depots : ℕ) (m o : List ℕ) (at : ℕ) where
 
   pub none_put : (kind_of m ≡ beat_kind → ⊥) → (kind_of m ≡ copy_kind → ⊥) → o ≡ put o at (message_bytes depots m)
   unfolding message_bytes
-  none_put b c = sym (ap (put o at) (pick_false _ _ (ne_eqb _ _ b) ∙ pick_false _ _ (ne_eqb _ _ c)) ∙ words.put-none o at)
+  none_put b c = sym (ap (put o at) (pick_false _ _ (ne_eqb _ _ b) ∙ pick_false _ _ (ne_eqb _ _ c)) ∙ words.put_none o at)
