@@ -93,7 +93,9 @@ is_old() {
 
 # Has rt prove and link a program. It runs it too, here on no input; the line before that tells that it is made. The copy stays while rt makes it anew.
 make() {
-    local log=target/$1.log crates watcher=
+    local log=target/$1.log crates locked watcher=
+    locked=$(find crates -maxdepth 2 \( -path 'crates/*/out' -o ! -path 'crates/*/*' \) ! -writable -print -quit)
+    [ -z "$locked" ] || fail "$(id -un) cannot write $locked: please use a clone of your own"
     touch target/began
     mapfile -t crates < <(stands_on "$1")
     : >"$log"
@@ -118,7 +120,6 @@ make() {
 [ "$(uname -m)" = x86_64 ] || fail "the desk and the Rattle kit that makes it are for x86-64, and this machine is $(uname -m)"
 command -v rt >/dev/null || fail "rt, which proves and links the desk, is not on the path: it is the command of the Rattle kit"
 if [ -e "$root/target" ]; then locked=$(find "$root/target" -maxdepth 2 ! -writable -print -quit); else locked=$(find "$root" -maxdepth 0 ! -writable); fi
-[ -n "$locked" ] || locked=$(find "$root/crates" -maxdepth 2 \( -path '*/crates/*/out' -o ! -path '*/crates/*/*' \) ! -writable -print -quit)
 [ -z "$locked" ] || fail "$(id -un) cannot write $locked: please use a clone of your own"
 cd "$root"
 mkdir -p target/bin
