@@ -1,4 +1,4 @@
-/* The depot register, as C sees it. Link target/staticlib/libexport.a (`rt staticlib export` makes it).
+/* The depot register, as C sees it. Link target/staticlib/libexport.a (`tools/rust.sh archive` makes it).
  *
  * A book is 16,384 words of 32 bits that you own and lend for the time of one call. docs/LAYOUT.md gives every word.
  * The library keeps nothing between calls, allocates nothing and calls nothing of yours.

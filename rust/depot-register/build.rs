@@ -15,7 +15,7 @@ fn main() {
     println!("cargo:rerun-if-changed={}", archive.display());
     if !archive.is_file() {
         eprintln!("no archive {}", archive.display());
-        eprintln!("`rt staticlib export` makes target/staticlib/libexport.a; DEPOT_STATICLIB names another folder");
+        eprintln!("`tools/rust.sh archive` makes target/staticlib/libexport.a; DEPOT_STATICLIB names another folder");
         exit(1);
     }
     println!("cargo:rustc-link-search=native={}", folder.display());

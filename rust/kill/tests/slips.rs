@@ -8,20 +8,13 @@ use std::{env, fs, process};
 use kill::desk::Programs;
 use kill::trials::{Count, Trial, Trouble};
 
-/// The words that start a program: under an emulator, if there is one, and on a disk that forgets, if that is asked for.
+/// The words that start a program: on a disk that forgets, if that is asked for.
 fn words(forgets: Option<&OsString>) -> Vec<OsString> {
-    let emulator = env::var("CARGO_TARGET_X86_64_UNKNOWN_LINUX_GNU_RUNNER").ok();
-    let preload = forgets.map(|library| {
+    forgets.map_or(Vec::new(), |library| {
         let mut word = OsString::from("LD_PRELOAD=");
         word.push(library);
-        word
-    });
-    match (emulator, preload) {
-        (None, None) => Vec::new(),
-        (None, Some(preload)) => vec!["env".into(), preload],
-        (Some(emulator), None) => vec![emulator.into()],
-        (Some(emulator), Some(preload)) => vec![emulator.into(), "-E".into(), preload],
-    }
+        vec!["env".into(), word]
+    })
 }
 
 /// So many kills of the desk with a slip.
