@@ -8,7 +8,7 @@ use Rattle.loops.proofs.BoolLaws.{and_stop}
 use Rattle.months.specs.Months.{month_lengths}
 use Rattle.months.proofs.MonthLaws.{month_low, month_high, days_none, days_leap, days_listed}
 use Rattle.months.proofs.days_in_month.Goals as goal
-use Rattle.months.proofs.days_in_month.Goals.{then-month-eq2, else-month-eq2}
+use Rattle.months.proofs.days_in_month.Goals.{then-month-eq2+else-is_leap, else-month-eq2}
 
 pub returns-then-month-lt1 : goal.returns-then-month-lt1
 returns-then-month-lt1 c = sym (days_none _ _ (month_low _ c.if-month-lt1.true))
@@ -24,4 +24,4 @@ unfolding month_lengths
 returns c =
     sym
     (days_listed _ _ (search rules) (search rules)
-    (elim c.if-month-eq2.branch [ then-month-eq2 w ↦ rw (eq-eqb _ _ w.if-month-eq2.true) (sym w.is_leap.ensures ∙ w.if-is_leap.false) | else-month-eq2 w ↦ and_stop _ (ne_eqb _ _ w.if-month-eq2.false) ]))
+    (elim c.if-month-eq2.branch [ then-month-eq2+else-is_leap w ↦ rw (eq-eqb _ _ w.if-month-eq2.true) (sym w.is_leap.ensures ∙ w.if-is_leap.false) | else-month-eq2 w ↦ and_stop _ (ne_eqb _ _ w.if-month-eq2.false) ]))

@@ -9,7 +9,7 @@ use borrow.Author.Rules.{rules}
 use Rattle.order.specs.Vector.{vector_in, covered}
 use Rattle.order.proofs.VectorLaws.{covered_none, covered_more, covered_stop}
 use Rattle.order.proofs.vector.is_covered.Goals as goal
-use Rattle.order.proofs.vector.is_covered.Goals.{then-x-own, else-x-own}
+use Rattle.order.proofs.vector.is_covered.Goals.{then-x-own+else-v-x, else-x-own}
 
 pub loop-x-init : goal.loop-x-init
 loop-x-init c = (search rules, covered_none _ _ _)
@@ -23,7 +23,7 @@ pub loop-x-preserved : goal.loop-x-preserved
 loop-x-preserved c = (
   search rules,
   covered_more _ _ _ _ c.loop-x.invariant.1
-      (elim c.if-x-own.branch [ then-x-own w ↦ λ _. w.if-v-x.false | else-x-own w ↦ λ other. absurd (other w.if-x-own.false) ]),
+      (elim c.if-x-own.branch [ then-x-own+else-v-x w ↦ λ _. w.if-v-x.false | else-x-own w ↦ λ other. absurd (other w.if-x-own.false) ]),
 )
 
 pub returns : goal.returns
