@@ -20,6 +20,7 @@ pub struct Shape {
 }
 
 // The kind that a number names.
+#[tactic(auto, unfolding(journal::specs::Record::byte_of))]
 pub fn kind_of(n: u32) -> Named
     ensures { result ≡ named_by (kind_of n) }
 {
@@ -37,6 +38,7 @@ pub fn kind_of(n: u32) -> Named
 }
 
 // The byte that names a kind.
+#[tactic(auto, unfolding(journal::specs::Record::byte_of))]
 pub fn byte_of(kind: Kind) -> u8
     ensures { result ≡ byte_of kind }
 {
@@ -59,6 +61,7 @@ fn of_shape(own: usize, counted: bool) -> Shape
 }
 
 // What stands behind a kind's byte.
+#[tactic(auto, unfolding(crate::specs::Kinds::shape_by, journal::specs::Record::form_of))]
 pub fn shape_of(kind: Kind) -> Shape
     ensures { result ≡ shape_by (form_of kind) }
 {

@@ -113,6 +113,7 @@ pub fn request_of(event: Event, numbers: &[u32]) -> Request
 }
 
 // How many numbers a request of this kind has of its own.
+#[tactic(auto, unfolding(crate::specs::Requests::own_numbers))]
 fn own_numbers(event: Event) -> usize
     ensures { result ≡ own_numbers event }
 {
