@@ -27,4 +27,5 @@ returns c =
     c.put_words.ensures c.put_words-2.ensures
 
 pub shape_of-out : goal.shape_of-out
-shape_of-out c = ap length (returns c.before) ∙ length_put _ _ _
+shape_of-out c = ap length (counted_numbers _ c.args.at _ _ _ c.byte_of.ensures
+    c.put_words.ensures c.put_words-2.ensures) ∙ length_put _ _ _

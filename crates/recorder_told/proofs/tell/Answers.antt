@@ -22,4 +22,5 @@ returns c =
     c.write_words.ensures ∙ ap (λ (w : List ℕ). put c.args.out.now 0 (c.args.size ∷ w)) c.answer_words-words.ensures
 
 pub shape_of-out : goal.shape_of-out
-shape_of-out c = ap length (returns c.before) ∙ length_put _ _ _
+unfolding put
+shape_of-out c = ap length (c.write_words.ensures ∙ ap (λ (w : List ℕ). put c.args.out.now 0 (c.args.size ∷ w)) c.answer_words-words.ensures) ∙ length_put _ _ _

@@ -15,7 +15,7 @@ pub overflow_sub-filled : goal.overflow_sub-filled
 overflow_sub-filled c = counted_in c.args.buffer.now c.args.filled c.recover-told.ensures c.requires
 
 pub bring_forward-requires : goal.bring_forward-requires
-bring_forward-requires c = omega (arith, sub-bring-forward c.before, c.requires)
+bring_forward-requires c = omega (arith, counted_in c.args.buffer.now c.args.filled c.recover-told.ensures c.requires, c.requires)
 
 pub returns : goal.returns
 returns c =

@@ -36,7 +36,7 @@ slice_bounds-read_words-end-2 c =
     sym (length-take-le c.extent_of-extent.result.numbers c.args.numbers.now (omega (arith, c.extent_of-extent.ensures.2, c.requires.1)))
 
 pub read_words-requires : goal.read_words-requires
-read_words-requires c = omega (arith, slice-aggregate-read-words c.before, c.if-bytes-size.false)
+read_words-requires c = omega (arith, sym (length-take-le c.extent_of-extent.result.numbers c.args.numbers.now (omega (arith, c.extent_of-extent.ensures.2, c.requires.1))), c.if-bytes-size.false)
 
 pub slice_bounds-replayed-end-2 : goal.slice_bounds-replayed-end-2
 slice_bounds-replayed-end-2 c =

@@ -16,7 +16,11 @@ bounds-out-last c =
     omega (arith, w.after, c.requires.0)
 
 pub overflow_add-result : goal.overflow_add-result
-overflow_add-result c = let h = slice-write-out c.before in search rules
+overflow_add-result c =
+    let w = c.say_line-end.ensures.1.0 in
+    let h = reading_length c.args.book.now (reading c.args.line.now) in
+    let k = wrote_length w in
+    omega (arith, w.after, c.requires.0)
 
 pub returns : goal.returns
 unfolding book_after_line answer_to record_to done_by

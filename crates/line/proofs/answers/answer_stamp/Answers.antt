@@ -51,4 +51,4 @@ pub returns : goal.returns
 returns c = wrote_after 48 (wrote_then c.print_spaced-next.ensures (wrote_after 32 (wrote_byte_as _ _ c.standing_of.ensures)))
 
 pub shape_of-out : goal.shape_of-out
-shape_of-out c = wrote_length (returns c)
+shape_of-out c = wrote_length (wrote_after 48 (wrote_then c.print_spaced-next.ensures (wrote_after 32 (wrote_byte_as _ _ c.standing_of.ensures))))

@@ -11,4 +11,4 @@ pub returns : goal.returns
 returns c = wrote_after 48 c.print_value.ensures
 
 pub shape_of-out : goal.shape_of-out
-shape_of-out c = wrote_length (returns c.before)
+shape_of-out c = wrote_length (wrote_after 48 c.print_value.ensures)

@@ -17,4 +17,4 @@ pub returns : goal.returns
 returns c = wrote_after 32 (wrote_after 45 c.print_numbers.ensures)
 
 pub shape_of-out : goal.shape_of-out
-shape_of-out c = wrote_length (returns c.before)
+shape_of-out c = wrote_length (wrote_after 32 (wrote_after 45 c.print_numbers.ensures))

@@ -19,7 +19,7 @@ print_numbers-requires c =
     (c.requires.0, room_then _ c.requires.1 c.print_numbers-next.ensures)
 
 pub returns : goal.returns
-returns c = wrote_then c.print_numbers.ensures c.print_numbers.ensures
+returns c = wrote_then c.print_numbers-next.ensures c.print_numbers.ensures
 
 pub shape_of-out : goal.shape_of-out
-shape_of-out c = wrote_length (returns c.before)
+shape_of-out c = wrote_length (wrote_then c.print_numbers-next.ensures c.print_numbers.ensures)

@@ -24,7 +24,7 @@ returns-then-told-eq0 c =
     c.print_unwritten.ensures
 
 pub shape_of-out-then-told-eq0 : goal.shape_of-out-then-told-eq0
-shape_of-out-then-told-eq0 c = wrote_length (returns c.before)
+shape_of-out-then-told-eq0 c = wrote_length c.print_unwritten.ensures
 
 pub print_value-requires : goal.print_value-requires
 print_value-requires c =
@@ -41,4 +41,4 @@ returns c =
     c.print_value.ensures
 
 pub shape_of-out : goal.shape_of-out
-shape_of-out c = wrote_length (returns-2 c.before)
+shape_of-out c = wrote_length c.print_value.ensures

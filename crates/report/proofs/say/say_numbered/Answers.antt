@@ -27,7 +27,12 @@ bounds-out-last c =
     )
 
 pub overflow_add-result : goal.overflow_add-result
-overflow_add-result c = let h = slice-write-out c.before in search rules
+unfolding ended numbered
+overflow_add-result c = omega (
+      arith,
+      (room_then (10 ∷ []) c.requires
+          (wrote_then c.print_text-next.ensures c.print_number-last.ensures)).room,
+    )
 
 pub shape_of-out : goal.shape_of-out
 shape_of-out c = simp length-set (c.print_number-last.auto.out ∙ c.print_text-next.auto.out)
