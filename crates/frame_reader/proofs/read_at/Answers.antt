@@ -43,4 +43,4 @@ returns c =
     (reader_on _ _ _ _ _ _ _ pre.0 pre.1 pre.2 pre.3 (λ e. c.if-index.false
     (c.index.ensures ∙ e ∙ sym c.index-2.ensures)))
     (subst (λ (n : Counts). Outcome (first (arrival_rows (way n) args.expected f (length o))) (count_in f) (put o 0 (body_in (way n) f)) o call.result
-    call.new.way.1.1.0) c.counts_of-n.ensures call.ensures)
+    call.new.out) c.counts_of-n.ensures call.ensures)

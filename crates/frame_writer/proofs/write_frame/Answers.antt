@@ -36,5 +36,5 @@ returns-in-Good c =
     let args = c.args in
     let call = c.write_at in
     let good = good_link _ _ _ _ _ _ _ c.check_link.ensures c.in-Good.is in
-    subst₃ (λ (x : Depot) (y : Shelf) (z : Depot). Written args.book.now x.0 y.0 z.0 args.count args.serial args.out.now call.result call.new.d.1.1.1.1.1.0)
+    subst₃ (λ (x : Depot) (y : Shelf) (z : Depot). Written args.book.now x.0 y.0 z.0 args.count args.serial args.out.now call.result call.new.out)
     (sym good.1) (sym good.2) (sym good.3) call.ensures

@@ -28,7 +28,7 @@ loop-s-preserved c =
     let loop = c.loop-s in
     let args = c.args in (
       search rules,
-      call.auto.n.1.1.1.0 ∙ loop.invariant.1,
+      call.auto.vector ∙ loop.invariant.1,
       times_more _ _ _ loop.invariant.2
           (call.ensures ∙ ap (λ (x : ℕ). turn args.n args.d.0 args.book.now x loop.vector) c.nth.ensures),
     )

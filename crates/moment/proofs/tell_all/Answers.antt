@@ -52,8 +52,8 @@ loop-i-preserved c =
     let loop = c.loop-i in
     let args = c.args in (
       search rules,
-      call.auto.n.1.1.1.0 ∙ loop.invariant.1,
-      call.auto.n.1.1.1.0 ∙ loop.invariant.2,
+      call.auto.words ∙ loop.invariant.1,
+      call.auto.words ∙ loop.invariant.2,
       page_more _ _ loop.i c.loop-i-test.true (list_size_in _ c.requires.4).1 loop.invariant.3
           (call.ensures ∙ ap (λ (k : ℕ). put loop.words (8 * loop.i) (told_words (told args.n.depots (stored args.book.now args.d.0 k))))
           c.bearing_at-k.ensures),

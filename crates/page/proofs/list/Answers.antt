@@ -65,7 +65,7 @@ returns-in_default c =
     let args = c.args in
     let over = subst (λ (m : Counts). m.crews ≤ args.crew) c.counts_of-n.ensures
     (bad_crew c.checked.ensures c.in_default.is) in
-    let e = list_crew args.book.now args.crew args.bearings.now (base_book c.before.before.before.before.before.before) over in
+    let e = list_crew args.book.now args.crew args.bearings.now (base_book c.before.before.before.before.before) over in
     let told = list_refused BadCrew _ c.refused-in_default.ensures e in
     record { answer = told.0; holds = told.1; book = after_refused BadCrew _ _ e }
 
@@ -75,7 +75,7 @@ returns-then-not-is_list c =
     let args = c.args in
     let under = subst (λ (m : Counts). args.crew < m.crews) c.counts_of-n.ensures
     (good_crew _ c.checked.ensures c.in-Good.is).0 in
-    let e = list_size args.book.now args.crew args.bearings.now (base_book c.before.before.before.before.before.before.before.before.before) under
+    let e = list_size args.book.now args.crew args.bearings.now (base_book c.before.before.before.before.before.before.before) under
     (test_failed c.is_list.ensures c.if-not-is_list.true-raw) in
     let told = list_refused BadList _ c.refused-then-not-is_list.ensures e in
     record { answer = told.0; holds = told.1; book = after_refused BadList _ _ e }
@@ -84,7 +84,7 @@ pub returns-then-not-all_below : goal.returns-then-not-all_below
 unfolding number_of
 returns-then-not-all_below c =
     let args = c.args in
-    let e = list_key args.book.now args.crew args.bearings.now (base_book c.before.before.before.before.before.before.before.before.before.before.before)
+    let e = list_key args.book.now args.crew args.bearings.now (base_book c.before.before.before.before.before.before.before.before.before)
     (crew_under c.before.before.before.before) (list_sized c.before.before.before.before) (test_failed (bearings_said c.before.before.before) c.if-not-all_below.true-raw) in
     let told = list_refused BadKey _ c.refused-then-not-all_below.ensures e in
     record { answer = told.0; holds = told.1; book = after_refused BadKey _ _ e }
@@ -93,7 +93,7 @@ pub list_at-requires : goal.list_at-requires
 list_at-requires c =
     let book = c.args.book.now in
     let crew = good_crew _ c.checked.ensures c.in-Good.is in (
-      base_book c.before.before.before.before.before.before.before.before.before.before.before,
+      base_book c.before.before.before.before.before.before.before.before.before,
       subst (λ (x : Crew). x.0 < (counts_of book).crews) crew.1
           (crew_under c.before.before.before.before),
       list_sized c.before.before.before.before,

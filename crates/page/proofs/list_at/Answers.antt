@@ -111,7 +111,7 @@ pub settle_all-requires : goal.settle_all-requires
 settle_all-requires c =
     let w = base c.before.before.before.before.before.before.before.before.before.before.before.before.before in (
       w.full,
-      c.gather.auto.n.1.1.1.0 ∙ ap (λ (v : List ℕ). length v) c.crew_vector-offered.ensures,
+      c.gather.auto.vector ∙ ap (λ (v : List ℕ). length v) c.crew_vector-offered.ensures,
       shelves_ready _ _ c.counts_of-n.ensures
           c.home_depot-d.ensures c.args.bearings.now w c.requires.1
           (parts_fit_law c.before.before.before.before.before.before.before),

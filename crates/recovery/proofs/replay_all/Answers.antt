@@ -46,7 +46,7 @@ loop-at-preserved c =
     let f = c.args.bytes.now in
     let call = c.next_record-next in
     let w = far_more loop.invariant.4 (left_turn f loop.at call.ensures) c.if-next-ne0.false in
-    (w.2, omega (arith, loop.invariant.1, w.1), call.auto.book ∙ loop.invariant.2, call.auto.bytes.1.0 ∙ loop.invariant.3, w.0)
+    (w.2, omega (arith, loop.invariant.1, w.1), call.auto.book ∙ loop.invariant.2, call.auto.numbers ∙ loop.invariant.3, w.0)
 
 pub returns : goal.returns
 returns c = far_end c.loop-at.invariant.4 c.loop-at-test.false
@@ -55,7 +55,7 @@ pub shape_of-book-then-next-ne0 : goal.shape_of-book-then-next-ne0
 shape_of-book-then-next-ne0 c = c.next_record-next.auto.book ∙ c.loop-at.invariant.2
 
 pub shape_of-numbers-then-next-ne0 : goal.shape_of-numbers-then-next-ne0
-shape_of-numbers-then-next-ne0 c = c.next_record-next.auto.bytes.1.0 ∙ c.loop-at.invariant.3
+shape_of-numbers-then-next-ne0 c = c.next_record-next.auto.numbers ∙ c.loop-at.invariant.3
 
 pub shape_of-book : goal.shape_of-book
 shape_of-book c = c.loop-at.invariant.2

@@ -44,7 +44,7 @@ unfolding number_of paper
 returns-in_default c =
     let args = c.args in
     let over = subst (λ (m : Counts). m.crews ≤ args.crew) c.counts_of-n.ensures (bad_crew c.checked.ensures c.in_default.is) in
-    let e = move_crew args.book.now args.crew args.depot (base_book c.before.before.before.before) over in
+    let e = move_crew args.book.now args.crew args.depot (base_book c.before.before.before) over in
     record { answer = by_refusal BadCrew _ e; book = after_refused BadCrew _ _ e }
 
 pub returns-in_default-checked : goal.returns-in_default-checked
@@ -55,7 +55,7 @@ returns-in_default-checked c =
     let under = subst (λ (m : Counts). args.crew < m.crews) n (good_crew _ c.checked.ensures
     c.in-Good.is).0 in
     let over = subst (λ (m : Counts). m.depots ≤ args.depot) n (bad_depot c.checked-2.ensures c.in_default-checked.is) in
-    let e = move_depot args.book.now args.crew args.depot (base_book c.before.before.before.before.before.before.before.before) under over in
+    let e = move_depot args.book.now args.crew args.depot (base_book c.before.before.before.before.before) under over in
     record { answer = by_refusal BadDepot _ e; book = after_refused BadDepot _ _ e }
 
 pub move_at-requires : goal.move_at-requires
@@ -65,7 +65,7 @@ move_at-requires c =
     let n = c.counts_of-n.ensures in
     let crew = good_crew _ c.checked.ensures c.in-Good.is in
     let depot = good_depot _ c.checked-2.ensures c.in-Good-checked.is in (
-      base_book c.before.before.before.before.before.before.before.before.before.before,
+      base_book c.before.before.before.before.before.before,
       subst (λ (x : Crew). x.0 < (counts_of book).crews) crew.1 (subst (λ (m : Counts). args.crew < m.crews) n crew.0),
       subst (λ (x : Depot). x.0 < (counts_of book).depots) depot.1 (subst (λ (m : Counts). args.depot < m.depots) n depot.0),
     )

@@ -29,7 +29,7 @@ loop-i-preserved c =
     (λ w. exactly_left call.ensures.1 w.0.left w.1)
     c.if-runs.branch
     in
-    (omega (arith, c.loop-i-test.true), call.auto.book ∙ inv.1, call.auto.out.0 ∙ inv.2, rerun_more inv.3 call.ensures.0 all)
+    (omega (arith, c.loop-i-test.true), call.auto.book ∙ inv.1, call.auto.out ∙ inv.2, rerun_more inv.3 call.ensures.0 all)
 
 pub shape_of-book : goal.shape_of-book
 shape_of-book c = c.loop-i.invariant.1

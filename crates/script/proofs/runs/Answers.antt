@@ -44,7 +44,7 @@ loop-at-preserved-then-is_answered c =
     call.ensures.0
     (exactly_taken call.ensures.1 c.if-is_answered.true refl)
     in
-    (call.auto.book ∙ loop.invariant.0, call.auto.out.0 ∙ loop.invariant.1, far)
+    (call.auto.book ∙ loop.invariant.0, call.auto.out ∙ loop.invariant.1, far)
 
 pub loop-at-smaller : goal.loop-at-smaller
 loop-at-smaller c = omega (arith, (placed c.before.before.before.before.before.before.before.before.before.before.before).moves)
@@ -62,7 +62,7 @@ loop-at-preserved c =
     call.ensures.0
     (exactly_left call.ensures.1 c.if-is_answered.false refl)
     in
-    (call.auto.book ∙ loop.invariant.0, call.auto.out.0 ∙ loop.invariant.1, far)
+    (call.auto.book ∙ loop.invariant.0, call.auto.out ∙ loop.invariant.1, far)
 
 pub shape_of-book : goal.shape_of-book
 shape_of-book c = c.loop-at.invariant.0

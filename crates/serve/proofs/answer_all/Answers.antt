@@ -28,11 +28,11 @@ pub loop-more-preserved : goal.loop-more-preserved
 loop-more-preserved c =
     let call = c.turn-told in
     let inv = c.loop-more.invariant in (
-      call.auto.book.0 ∙ inv.0,
-      call.auto.book.1.0 ∙ inv.1,
-      call.auto.book.1.1.0 ∙ inv.2,
-      call.auto.book.1.1.1.0 ∙ inv.3,
-      call.auto.book.1.1.1.1.0 ∙ inv.4,
+      call.auto.book ∙ inv.0,
+      call.auto.line ∙ inv.1,
+      call.auto.input ∙ inv.2,
+      call.auto.out ∙ inv.3,
+      call.auto.log ∙ inv.4,
       served_more _ inv.5 call.ensures.0 call.ensures.1,
     )
 

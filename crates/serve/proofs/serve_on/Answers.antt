@@ -26,4 +26,4 @@ pub slice_bounds-answer_all-end-3 : goal.slice_bounds-answer_all-end-3
 slice_bounds-answer_all-end-3 c = sym (length-replicate {A = ℕ} (answer_room * 4097) 0)
 
 pub shape_of-book : goal.shape_of-book
-shape_of-book c = c.answer_all.auto.book.0
+shape_of-book c = c.answer_all.auto.book

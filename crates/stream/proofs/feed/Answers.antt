@@ -31,7 +31,7 @@ loop-i-preserved c =
     let more = c.loop-i-test.true in
     let inv = c.loop-i.invariant in (
       call.auto.book ∙ inv.0,
-      call.auto.line.0 ∙ inv.1,
+      call.auto.line ∙ inv.1,
       fed_step inv.2 more call.ensures.0 call.ensures.1.0,
       given_step inv.2 more answers_most inv.3 call.ensures.1.1.0,
       given_step inv.2 more records_most inv.4 call.ensures.1.1.1,

@@ -81,7 +81,7 @@ returns-in_default c =
     let args = c.args in
     let bad = bad_depot c.checked.ensures c.in_default.is in
     let over = subst (λ (n : Counts). n.depots ≤ args.depot) c.counts_of-n.ensures bad in
-    who_refused _ _ _ BadDepot (who_depot _ _ _ (base c.before.before.before.before.before) over)
+    who_refused _ _ _ BadDepot (who_depot _ _ _ (base c.before.before.before.before) over)
 
 pub returns-in_default-checked : goal.returns-in_default-checked
 unfolding number_of
@@ -89,11 +89,11 @@ returns-in_default-checked c =
     let args = c.args in
     let bad = bad_bearing c.checked-2.ensures c.in_default-checked.is in
     let over = subst (λ (n : Counts). n.bearings ≤ args.bearing) c.counts_of-n.ensures bad in
-    who_refused _ _ _ BadKey (who_key _ _ _ (base c.before.before.before.before.before.before.before.before.before) (depot_known c.before.before.before.before).0 over)
+    who_refused _ _ _ BadKey (who_key _ _ _ (base c.before.before.before.before.before.before) (depot_known c.before.before.before).0 over)
 
 pub stores_fit-requires : goal.stores_fit-requires
 stores_fit-requires c =
-    let w = based c.before.before.before.before.before.before.before.before.before.before in
+    let w = based c.before.before.before.before.before.before in
     let known = bearing_known c.before in (
       w.full,
       subst (λ (n : Counts). n.depots ≤ 4) (sym c.counts_of-n.ensures) w.within.depots,
@@ -104,12 +104,12 @@ pub returns-then-not-stores_fit : goal.returns-then-not-stores_fit
 unfolding number_of
 returns-then-not-stores_fit c =
     who_refused _ _ _ BadBook
-    (who_parts_law _ _ _ (base c.before.before.before.before.before.before.before.before.before.before.before.before) (depot_known c.before.before.before.before.before.before.before).0 (bearing_known c.before.before.before).0 (test_failed (parts_said c.before.before) c.if-not-stores_fit.true-raw))
+    (who_parts_law _ _ _ (base c.before.before.before.before.before.before.before.before) (depot_known c.before.before.before.before.before).0 (bearing_known c.before.before.before).0 (test_failed (parts_said c.before.before) c.if-not-stores_fit.true-raw))
 
 pub mask_of-mask-requires : goal.mask_of-mask-requires
 mask_of-mask-requires c =
-    let w = based c.before.before.before.before.before.before.before.before.before.before.before.before in
-    let depot = depot_known c.before.before.before.before.before.before.before in
+    let w = based c.before.before.before.before.before.before.before.before in
+    let depot = depot_known c.before.before.before.before.before in
     let bearing = bearing_known c.before.before.before in (
       w.full,
       subst (λ (n : Counts). n.depots ≤ 4) (sym c.counts_of-n.ensures) w.within.depots,
@@ -119,7 +119,7 @@ mask_of-mask-requires c =
 
 pub returns : goal.returns
 returns c =
-    let depot = depot_known c.before.before.before.before.before.before.before.before in
+    let depot = depot_known c.before.before.before.before.before.before in
     let bearing = bearing_known c.before.before.before.before in
-    who_done _ _ _ (who_good _ _ _ (base c.before.before.before.before.before.before.before.before.before.before.before.before.before) depot.0 bearing.0 (test_passed (parts_said c.before.before.before) c.if-not-stores_fit.false-raw))
+    who_done _ _ _ (who_good _ _ _ (base c.before.before.before.before.before.before.before.before.before) depot.0 bearing.0 (test_passed (parts_said c.before.before.before) c.if-not-stores_fit.false-raw))
     c.counts_of-n.ensures depot.1 bearing.1 c.mask_of-mask.ensures

@@ -121,13 +121,13 @@ same_payload c = payload_back _ _ (good c)
 -- where the write stands: the home shelf's clock, and the crew's home entry
 clock_said :
     (c : After-clock_of-clock) →
-    let args = (begin (parts (day c.before.before))).args in
+    let args = (begin (parts (day c.before))).args in
     let book = args.book.now in
     c.clock_of-clock.result ≡ clock book (home book args.c.0) (shelf_of book args.k.0)
 clock_said c =
-    let shelf = (parts (day c.before.before)).before.before.before in
+    let shelf = (parts (day c.before)).before.before.before in
     let counts = shelf.before.before.before in
-    let args = (begin (parts (day c.before.before))).args in
+    let args = (begin (parts (day c.before))).args in
     let book = args.book.now in
     c.clock_of-clock.ensures
     ∙ (λ z. clock book (shelf.before.home-depot.ensures z) (shelf.shelf-for.ensures z))
@@ -256,16 +256,16 @@ returns-then-payload-gt-LAST_DAY c =
 pub returns-in_default : goal.returns-in_default
 unfolding number_of paper_write
 returns-in_default c =
-    let start = begin (parts c.before.before.before) in
+    let start = begin (parts c.before.before) in
     let none = bad_tells _ _ (sym c.card_of.ensures ∙ c.in_default.is) in
-    let e = write_card _ _ _ _ (fits (parts c.before.before.before)) start.pre.1 start.pre.2 (dated c.before.before.before) none in
+    let e = write_card _ _ _ _ (fits (parts c.before.before)) start.pre.1 start.pre.2 (dated c.before.before) none in
     record { answer = by_refusal BadCard _ e; book = after_refused BadCard _ _ e }
 
 pub clock_of-clock-requires : goal.clock_of-clock-requires
-clock_of-clock-requires c = let h = small (parts (day c.before)).before.before.before in ((base (begin (parts (day c.before)))).full, h.0, h.1)
+clock_of-clock-requires c = let h = small (parts (day c)).before.before.before in ((base (begin (parts (day c)))).full, h.0, h.1)
 
 pub crew_at-requires : goal.crew_at-requires
-crew_at-requires c = (small (parts (day c.before.before)).before.before.before).2
+crew_at-requires c = (small (parts (day c.before)).before.before.before).2
 
 pub overflow_add-crew_at : goal.overflow_add-crew_at
 overflow_add-crew_at c = let h = small (parts (day (card c))).before.before.before in omega (arith, h.0, h.2, c.index.ensures, c.crew_at.ensures)

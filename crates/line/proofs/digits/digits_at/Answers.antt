@@ -10,20 +10,21 @@ use borrow.Author.Rules.{rules}
 use Rattle.line.specs.Number.{digit_run, is_digit}
 use Rattle.line.proofs.DigitLaws.{digit_yes, digit_low, digit_high, run_more, run_stop, run_end}
 use Rattle.line.proofs.digits.digits_at.Goals as goal
+use Rattle.line.proofs.digits.digits_at.Goals.{in_default-via-then-b-lt48, in_default-via-else-b-lt48+else-b-lt58}
 
 pub loop-i-init : goal.loop-i-init
 loop-i-init c = (search rules, refl)
 
 pub loop-i-preserved : goal.loop-i-preserved
 loop-i-preserved c =
-    let e = run_more c.args.s.now c.loop-i.i c.loop-i-test.true (digit_yes _ c.if-b-lt48.false c.in-48-to-57.if-b-lt58-own.true) in
+    let e = run_more c.args.s.now c.loop-i.i c.loop-i-test.true (digit_yes _ c.in-48-to-57.if-b-lt48-own.false c.in-48-to-57.if-b-lt58-own.true) in
     omega arith
 
 -- a byte that is no digit
 pub returns-in_default : goal.returns-in_default
 returns-in_default c =
     let s = c.args.s.now in
-    let other : is_digit (get_or s c.loop-i.i 0) ≡ false = ⊎_elim (λ w. digit_low _ w.taken) (λ w. digit_high _ w.1.left) c.in_default.branch in
+    let other : is_digit (get_or s c.loop-i.i 0) ≡ false = elim c.in_default.branch [ in_default-via-then-b-lt48 w ↦ digit_low (get_or s c.loop-i.i 0) (omega arith) | in_default-via-else-b-lt48+else-b-lt58 w ↦ digit_high (get_or s c.loop-i.i 0) (omega arith) ] in
     let e = run_stop s c.loop-i.i c.loop-i-test.true other in
     omega arith
 

@@ -9,13 +9,7 @@ use borrow.Author.Rules.{rules}
 use Rattle.line.specs.Number.{digit_run, value_from}
 use Rattle.line.proofs.DigitLaws.{digit_yes, digit_low, digit_high, run_more, value_more, value_stop, value_end, value_small, value_start, value_grows}
 use Rattle.line.proofs.digits.value_at.Goals as goal
-use Rattle.line.proofs.digits.value_at.Lts as lts
-use Rattle.line.proofs.digits.value_at.Tie as tie
-use Rattle.line.proofs.digits.value_at.Reads as reads
-
--- what is known at a place, for the lemmas below
-abbrev In-48-to-57 : Type 0
-In-48-to-57 = lts.Then2 tie.the-claims reads.Pre reads.Post goal.the-invariant-loop-i goal.the-decreases-loop-i
+use Rattle.line.proofs.digits.value_at.Goals.{In-48-to-57}
 
 pub loop-i-init : goal.loop-i-init
 loop-i-init c = (search rules, refl, value_start _, refl)
@@ -23,20 +17,20 @@ loop-i-init c = (search rules, refl, value_start _, refl)
 -- at a digit: one digit less is left, and the value is still small
 small : (c : In-48-to-57) → c.loop-i.v < 1_000_000_000
 small c =
-    let e = run_more c.args.s.now c.loop-i.i c.loop-i-test.true (digit_yes _ c.if-b-lt48.false c.in-48-to-57.if-b-lt58-own.true) in
+    let e = run_more c.args.s.now c.loop-i.i c.loop-i-test.true (digit_yes _ c.in-48-to-57.if-b-lt48-own.false c.in-48-to-57.if-b-lt58-own.true) in
     value_small _ (c.loop-i.i - c.args.at) c.loop-i.invariant.2 (omega arith)
 
 pub overflow_mul-v : goal.overflow_mul-v
-overflow_mul-v c = let h = small c.before in omega arith
+overflow_mul-v c = let h = small c in omega arith
 
 pub overflow_add-v : goal.overflow_add-v
-overflow_add-v c = let h = small c.before in omega arith
+overflow_add-v c = let h = small c in omega arith
 
 pub loop-i-preserved : goal.loop-i-preserved
 loop-i-preserved c =
     let s = c.args.s.now in
     let inside = c.loop-i-test.true in
-    let digit = digit_yes _ c.if-b-lt48.false c.in-48-to-57.if-b-lt58-own.true in
+    let digit = digit_yes _ c.in-48-to-57.if-b-lt48-own.false c.in-48-to-57.if-b-lt58-own.true in
     let e = run_more s c.loop-i.i inside digit in (
       search rules,
       omega arith,

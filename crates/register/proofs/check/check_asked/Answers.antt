@@ -41,7 +41,7 @@ returns-in_default c =
     let n = c.counts_of-n.ensures in
     let args = c.args in
     let over : (counts_of args.book.now).crews ≤ args.crew = subst (λ (m : Counts). m.crews ≤ args.crew) n (bad_crew c.checked.ensures c.in_default.is) in
-    asked_crew args.book.now _ _ (base_book c.before.before.before.before.before) over
+    asked_crew args.book.now _ _ (base_book c.before.before.before.before) over
 
 pub returns-in_default-checked : goal.returns-in_default-checked
 unfolding AskChecked number_of
@@ -52,7 +52,7 @@ returns-in_default-checked c =
     let under : args.crew < (counts_of book).crews =
     subst (λ (m : Counts). args.crew < m.crews) n (good_crew _ c.checked.ensures c.in-Good.is).0 in
     let over : (counts_of book).bearings ≤ args.bearing = subst (λ (m : Counts). m.bearings ≤ args.bearing) n (bad_bearing c.checked-2.ensures c.in_default-checked.is) in
-    asked_key book _ _ (base_book c.before.before.before.before.before.before.before.before.before) under over
+    asked_key book _ _ (base_book c.before.before.before.before.before.before) under over
 
 pub returns : goal.returns
 unfolding AskChecked number_of
@@ -64,4 +64,4 @@ returns c =
     let second = good_bearing _ c.checked-2.ensures c.in-Good-checked.is in
     let under : args.crew < (counts_of book).crews = subst (λ (m : Counts). args.crew < m.crews) n first.0 in
     let under2 : args.bearing < (counts_of book).bearings = subst (λ (m : Counts). args.bearing < m.bearings) n second.0 in
-    (asked_good book _ _ (base_book c.before.before.before.before.before.before.before.before.before.before) under under2, first.1, second.1)
+    (asked_good book _ _ (base_book c.before.before.before.before.before.before) under under2, first.1, second.1)

@@ -49,15 +49,15 @@ pub returns-in_default : goal.returns-in_default
 unfolding LinkChecked number_of
 returns-in_default c =
     let args = c.args in
-    let over = depots_over c.before.before.before.before _ (bad_depot c.checked.ensures c.in_default.is) in
-    link_depot args.book.now _ _ _ (base_book c.before.before.before.before.before) over
+    let over = depots_over c.before.before.before _ (bad_depot c.checked.ensures c.in_default.is) in
+    link_depot args.book.now _ _ _ (base_book c.before.before.before.before) over
 
 pub returns-in_default-checked : goal.returns-in_default-checked
 unfolding LinkChecked number_of
 returns-in_default-checked c =
     let args = c.args in
-    let over = depots_over c.before.before.before.before.before.before.before.before _ (bad_depot c.checked-2.ensures c.in_default-checked.is) in
-    link_from args.book.now _ _ _ (base_book c.before.before.before.before.before.before.before.before.before) over
+    let over = depots_over c.before.before.before.before.before _ (bad_depot c.checked-2.ensures c.in_default-checked.is) in
+    link_from args.book.now _ _ _ (base_book c.before.before.before.before.before.before) over
 
 pub returns-in_default-checked-2 : goal.returns-in_default-checked-2
 unfolding LinkChecked number_of
@@ -65,10 +65,10 @@ returns-in_default-checked-2 c =
     let args = c.args in
     let book = args.book.now in
     let n = c.counts_of-n.ensures in
-    let under = depots_under c.before.before.before.before.before.before.before.before.before.before.before.before _ (good_depot _ c.checked.ensures c.in-Good.is).0 in
-    let under2 = depots_under c.before.before.before.before.before.before.before.before.before.before.before.before _ (good_depot _ c.checked-2.ensures c.in-Good-checked.is).0 in
+    let under = depots_under c.before.before.before.before.before.before.before _ (good_depot _ c.checked.ensures c.in-Good.is).0 in
+    let under2 = depots_under c.before.before.before.before.before.before.before _ (good_depot _ c.checked-2.ensures c.in-Good-checked.is).0 in
     let over : (counts_of book).shelves ≤ args.shelf = subst (λ (m : Counts). m.shelves ≤ args.shelf) n (bad_shelf c.checked-3.ensures c.in_default-checked-2.is) in
-    link_shelf book _ _ _ (base_book c.before.before.before.before.before.before.before.before.before.before.before.before.before) under under2 over
+    link_shelf book _ _ _ (base_book c.before.before.before.before.before.before.before.before) under under2 over
 
 pub returns : goal.returns
 unfolding LinkChecked number_of
@@ -79,7 +79,7 @@ returns c =
     let first = good_depot _ c.checked.ensures c.in-Good.is in
     let second = good_depot _ c.checked-2.ensures c.in-Good-checked.is in
     let third = good_shelf _ c.checked-3.ensures c.in-Good-checked-2.is in
-    let under = depots_under c.before.before.before.before.before.before.before.before.before.before.before.before.before _ first.0 in
-    let under2 = depots_under c.before.before.before.before.before.before.before.before.before.before.before.before.before _ second.0 in
+    let under = depots_under c.before.before.before.before.before.before.before _ first.0 in
+    let under2 = depots_under c.before.before.before.before.before.before.before _ second.0 in
     let under3 : args.shelf < (counts_of book).shelves = subst (λ (m : Counts). args.shelf < m.shelves) n third.0 in
-    (link_good book _ _ _ (base_book c.before.before.before.before.before.before.before.before.before.before.before.before.before.before) under under2 under3, first.1, third.1, second.1)
+    (link_good book _ _ _ (base_book c.before.before.before.before.before.before.before.before) under under2 under3, first.1, third.1, second.1)

@@ -41,7 +41,7 @@ returns-in_default c =
     let n = c.counts_of-n.ensures in
     let args = c.args in
     let over : (counts_of args.book.now).depots ≤ args.depot = subst (λ (m : Counts). m.depots ≤ args.depot) n (bad_depot c.checked.ensures c.in_default.is) in
-    place_depot args.book.now _ _ (base_book c.before.before.before.before.before) over
+    place_depot args.book.now _ _ (base_book c.before.before.before.before) over
 
 pub returns-in_default-checked : goal.returns-in_default-checked
 unfolding PlaceChecked number_of
@@ -52,7 +52,7 @@ returns-in_default-checked c =
     let under : args.depot < (counts_of book).depots =
     subst (λ (m : Counts). args.depot < m.depots) n (good_depot _ c.checked.ensures c.in-Good.is).0 in
     let over : (counts_of book).shelves ≤ args.shelf = subst (λ (m : Counts). m.shelves ≤ args.shelf) n (bad_shelf c.checked-2.ensures c.in_default-checked.is) in
-    place_shelf book _ _ (base_book c.before.before.before.before.before.before.before.before.before) under over
+    place_shelf book _ _ (base_book c.before.before.before.before.before.before) under over
 
 pub returns : goal.returns
 unfolding PlaceChecked number_of
@@ -64,4 +64,4 @@ returns c =
     let second = good_shelf _ c.checked-2.ensures c.in-Good-checked.is in
     let under : args.depot < (counts_of book).depots = subst (λ (m : Counts). args.depot < m.depots) n first.0 in
     let under2 : args.shelf < (counts_of book).shelves = subst (λ (m : Counts). args.shelf < m.shelves) n second.0 in
-    (place_good book _ _ (base_book c.before.before.before.before.before.before.before.before.before.before) under under2, first.1, second.1)
+    (place_good book _ _ (base_book c.before.before.before.before.before.before) under under2, first.1, second.1)
