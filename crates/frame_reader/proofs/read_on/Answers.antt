@@ -17,10 +17,10 @@ use Rattle.frame_reader.proofs.read_on.Reads as reads
 
 -- what is known at a place, for the lemmas below
 abbrev Else-not-is_formed : Type 0
-Else-not-is_formed = lts.Else1 tie.the-claims reads.Pre reads.Post
+Else-not-is_formed = lts.Else1 tie.the-claims reads.Pre reads.Post tie.handed_clauses
 
 abbrev After-wrapping_sub_u16-behind : Type 0
-After-wrapping_sub_u16-behind = lts.After-wrapping_sub_u16 tie.the-claims reads.Pre reads.Post
+After-wrapping_sub_u16-behind = lts.After-wrapping_sub_u16 tie.the-claims reads.Pre reads.Post tie.handed_clauses
 
 is : (c : Else-not-is_formed) → formed c.args.way c.args.f.now ≡ true
 is c = test_passed c.is_formed.ensures c.if-not-is_formed.false-raw

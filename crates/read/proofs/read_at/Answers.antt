@@ -31,19 +31,19 @@ use Rattle.read.proofs.read_at.Reads as reads
 
 -- what is known at a place, for the lemmas below
 abbrev Start : Type 0
-Start = lts.Start tie.the-claims reads.Pre reads.Post
+Start = lts.Start tie.the-claims reads.Pre reads.Post tie.handed_clauses
 
 abbrev After-shelf_for-s : Type 0
-After-shelf_for-s = lts.After-shelf_for tie.the-claims reads.Pre reads.Post
+After-shelf_for-s = lts.After-shelf_for tie.the-claims reads.Pre reads.Post tie.handed_clauses
 
 abbrev After-read_parts_fit : Type 0
-After-read_parts_fit = lts.After-read_parts_fit tie.the-claims reads.Pre reads.Post
+After-read_parts_fit = lts.After-read_parts_fit tie.the-claims reads.Pre reads.Post tie.handed_clauses
 
 abbrev Else-not-read_parts_fit : Type 0
-Else-not-read_parts_fit = lts.Else1 tie.the-claims reads.Pre reads.Post
+Else-not-read_parts_fit = lts.Else1 tie.the-claims reads.Pre reads.Post tie.handed_clauses
 
 abbrev After-settle_home : Type 0
-After-settle_home = lts.After-settle_home tie.the-claims reads.Pre reads.Post
+After-settle_home = lts.After-settle_home tie.the-claims reads.Pre reads.Post tie.handed_clauses
 
 -- what the shared checks know of the book
 base : (c : Start) → Based c.args.book.now

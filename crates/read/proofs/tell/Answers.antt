@@ -20,10 +20,10 @@ use Rattle.read.proofs.tell.Reads as reads
 
 -- what is known at a place, for the lemmas below
 abbrev After-cut_vector-vector : Type 0
-After-cut_vector-vector = lts.After-cut_vector tie.the-claims reads.Pre reads.Post
+After-cut_vector-vector = lts.After-cut_vector tie.the-claims reads.Pre reads.Post tie.handed_clauses
 
 abbrev After-is_zero : Type 0
-After-is_zero = lts.After-is_zero tie.the-claims reads.Pre reads.Post
+After-is_zero = lts.After-is_zero tie.the-claims reads.Pre reads.Post tie.handed_clauses
 
 -- what the two callees say of the record's own vector
 vector_said : (c : After-cut_vector-vector) → let args = c.args in c.cut_vector-vector.result ≡ cut args.n (vector_of args.version.now)

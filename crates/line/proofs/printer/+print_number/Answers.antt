@@ -23,3 +23,8 @@ bounds-out-last t c =
 
 pub returns : goal.returns
 returns t c = wrote_number c.args.n c.if-n-lt10.false c.ranges.n.fits c.print_number-last.ensures
+
+pub overflow_add-result-2 : goal.overflow_add-result-2
+overflow_add-result-2 t c =
+    let h = room_then _ (room_front _ _ c.args.n c.if-n-lt10.false c.ranges.n.fits c.requires) c.print_number-last.ensures in
+    omega (arith, h.room)
