@@ -13,7 +13,7 @@ use lib.ListN.{length, get_or, set, replicate, length-set, get_or-replicate}
 use lib.Pow.{pow_pos}
 use lib.Seq.{get_or-set_same, get_or-set_other}
 use borrow.Author.Tests.{eqb-true, eq-eqb, ne_eqb}
-use Rattle.loops.proofs.BoolLaws.{together, failed, both_ways, and_left, and_right, and_intro, and_next, and_stop, or_next, or_cases, or_left, eq_or_ne}
+use Rattle.loops.proofs.BoolLaws.{together, both_ways, and_left, and_right, and_intro, and_next, and_stop, or_next, or_cases, or_left, eq_or_ne}
 use Rattle.chains.specs.Chain.{Grid, some}
 use Rattle.chains.specs.Table.{place, bit_of, bit, Adds, one, direct, joins, turns}
 use Rattle.chains.proofs.SomeLaws.{some_more, some_here, some_where}

@@ -5,16 +5,16 @@ use Prim.Native.Nat.{ℕ, zero, suc, ◌+◌, ◌%◌, ◌≤◌, ◌<◌, max}
 use native.Mathlib.Nat.{le_trans, le_refl, le_step, le-max_left, le-max_right, max-le}
 use native.Mathlib.Omega.{arith}
 use mathlib.Core.Path.{◌≡◌, refl, sym, ◌∙◌, ap, ap₂}
-use mathlib.Core.Logic.{◌⊎◌, inl, inr, ⊎_elim}
+use mathlib.Core.Logic.{⊎_elim}
 use mathlib.Core.List.{List}
 use mathlib.Core.Bool.{Bool, true, false, ◌&&◌, ◌||◌}
 use lib.Dec.{leb, ltb, eqb}
-use borrow.Author.Tests.{leb-true, le-leb, lt-ltb, le-ltb, eqb-true, eq-eqb, ne_eqb}
+use borrow.Author.Tests.{leb-true, le-leb, eqb-true, eq-eqb}
 use Rattle.loops.specs.Loops.{times, pick}
 use Rattle.order.specs.Vector.{Vec, zeros}
 use Rattle.order.specs.Record.{bearing_of, diameter_of, width_of, origin_of, vector_of}
 use Rattle.card.specs.Card.{card_fit}
-use Rattle.loops.proofs.BoolLaws.{together, le_or_lt, eq_or_ne, pick_true, pick_false}
+use Rattle.loops.proofs.BoolLaws.{together, eq_or_ne}
 use Rattle.loops.proofs.LoopLaws.{times_none, times_more, every_at, every_intro}
 use Rattle.order.proofs.VectorLaws.{zeros_at, zeros_intro}
 use Rattle.book.specs.declared.parts.Counts.{Counts}

@@ -1,6 +1,5 @@
 -- `card::card_fits` meets its contract: one length after the other.
 -- Assumes nothing.
-use borrow.Author.Rules.{rules}
 use mathlib.Core.Path.{sym, ◌∙◌}
 use Rattle.loops.proofs.BoolLaws.{and_next, and_stop, test_passed, test_failed}
 use Rattle.card.specs.Card.{card_fit}

@@ -1,6 +1,5 @@
 -- `card::card_of` meets its contract: the words of a card are no NaN's.
 -- Assumes nothing.
-use borrow.Author.Rules.{rules}
 use mathlib.Core.Path.{◌≡◌, sym}
 use mathlib.Core.Bool.{true}
 use Rattle.loops.proofs.BoolLaws.{pick_true, pick_false, test_passed, test_failed}

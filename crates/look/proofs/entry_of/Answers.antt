@@ -1,7 +1,6 @@
 -- `look::entry_of` meets its contract: the choice that the test makes.
 -- Assumes nothing.
-use mathlib.Core.Path.{◌∙◌, sym}
-use borrow.Author.Rules.{rules}
+use mathlib.Core.Path.{sym}
 use borrow.Author.Tests.{le-ltb, lt-ltb}
 use Rattle.loops.proofs.BoolLaws.{pick_true, pick_false}
 use Rattle.look.specs.Look.{entry_of}

@@ -1,11 +1,7 @@
 -- `look::look` meets its contract. The loop's invariant: the highest of the entries passed.
 -- Assumes nothing.
-use Prim.Native.Nat.{◌≤◌, ◌-◌}
 use native.Mathlib.Nat.{le_antisymm}
-use mathlib.Core.Path.{◌≡◌}
 use borrow.Author.Rules.{rules}
-use Rattle.order.specs.Record.{vector_of}
-use Rattle.look.specs.Look.{highest}
 use Rattle.look.proofs.LookLaws.{highest_none, highest_more, entry_by}
 use Rattle.look.proofs.look.Goals as goal
 

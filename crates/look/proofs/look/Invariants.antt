@@ -1,12 +1,9 @@
 -- What the loop keeps, and what falls. Answers.antt has the idea.
 -- Assumes nothing.
 use Prim.Native.Nat.{◌≤◌, ◌-◌}
-use native.Mathlib.Nat.{le_antisymm}
 use mathlib.Core.Path.{◌≡◌}
-use borrow.Author.Rules.{rules}
 use Rattle.order.specs.Record.{vector_of}
 use Rattle.look.specs.Look.{highest}
-use Rattle.look.proofs.LookLaws.{highest_none, highest_more, entry_by}
 use Rattle.look.proofs.look.Given as goal
 
 abbrev pub invariant-loop-x : goal.invariant-loop-x

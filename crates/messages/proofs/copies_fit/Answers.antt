@@ -1,10 +1,7 @@
 -- `messages::copies_fit` meets its contract. The loop's invariant: the messages passed are fit.
 -- Assumes nothing.
-use Prim.Native.Nat.{◌≤◌, ◌-◌}
 use native.Mathlib.Nat.{le_antisymm}
 use mathlib.Core.Path.{◌≡◌, ◌∙◌, sym, ap}
-use mathlib.Core.Bool.{true}
-use Rattle.loops.specs.Loops.{every}
 use Rattle.loops.proofs.BoolLaws.{test_passed, test_failed}
 use Rattle.loops.proofs.LoopLaws.{every_none, every_more, every_stop}
 use Rattle.book.specs.Layout.{slot}

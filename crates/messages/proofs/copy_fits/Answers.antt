@@ -5,7 +5,6 @@ use borrow.Author.Tests.{eq-eqb, ne_eqb}
 use Rattle.loops.proofs.BoolLaws.{and_next, and_stop}
 use Rattle.book.proofs.WordsLaws.{part_lent}
 use Rattle.fit.specs.Fit.{carried_fit, copy_fit}
-use borrow.Author.Rules.{rules}
 use Rattle.messages.proofs.copy_fits.Goals as goal
 
 pub returns-then-message-ne-COPY : goal.returns-then-message-ne-COPY

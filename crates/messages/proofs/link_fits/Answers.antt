@@ -4,7 +4,6 @@ use mathlib.Core.Path.{◌∙◌, sym}
 use borrow.Author.Tests.{le-leb, lt-leb}
 use Rattle.loops.proofs.BoolLaws.{and_next, and_stop}
 use Rattle.messages.proofs.MessageLaws.{link_heads, link_empty}
-use borrow.Author.Rules.{rules}
 use Rattle.messages.proofs.link_fits.Goals as goal
 
 pub returns-then-count-gt-LINK_ROOM : goal.returns-then-count-gt-LINK_ROOM

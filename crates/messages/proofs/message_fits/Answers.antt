@@ -4,7 +4,6 @@ use mathlib.Core.Path.{◌∙◌, ap, refl}
 use Rattle.book.proofs.WordsLaws.{part_lent}
 use Rattle.fit.specs.Fit.{carried_fit}
 use Rattle.messages.proofs.MessageLaws.{message_beat, message_none, message_copy}
-use borrow.Author.Rules.{rules}
 use Rattle.messages.proofs.message_fits.Goals as goal
 
 pub returns-then-kind-eq-BEAT : goal.returns-then-kind-eq-BEAT

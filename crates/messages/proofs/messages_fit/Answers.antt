@@ -4,7 +4,6 @@ use mathlib.Core.Path.{◌∙◌, sym}
 use Rattle.loops.proofs.BoolLaws.{and_next, and_stop, test_passed, test_failed}
 use Rattle.fit.specs.Fit.{messages_fit}
 use Rattle.messages.proofs.MessageLaws.{none_wait}
-use borrow.Author.Rules.{rules}
 use Rattle.messages.proofs.messages_fit.Goals as goal
 
 pub returns-then-not-copies_fit : goal.returns-then-not-copies_fit

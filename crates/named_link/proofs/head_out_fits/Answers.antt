@@ -4,7 +4,6 @@ use mathlib.Core.Path.{◌∙◌, sym, ap}
 use borrow.Author.Tests.{eq-eqb, ne_eqb}
 use Rattle.loops.proofs.BoolLaws.{or_next, or_stop}
 use Rattle.fit.specs.Fit.{head_fit}
-use borrow.Author.Rules.{rules}
 use Rattle.named_link.proofs.head_out_fits.Goals as goal
 
 pub returns-then-index : goal.returns-then-index

@@ -6,7 +6,6 @@ use Rattle.loops.proofs.BoolLaws.{and_next, and_stop}
 use Rattle.book.specs.Layout.{link_of}
 use Rattle.named.specs.Named.{waiting_fit, take_parts}
 use Rattle.named.proofs.NamedLaws.{take_heads}
-use borrow.Author.Rules.{rules}
 use Rattle.named_link.proofs.take_parts_fit.Goals as goal
 use Rattle.named_link.proofs.take_parts_fit.Lts as lts
 use Rattle.named_link.proofs.take_parts_fit.Tie as tie

@@ -5,7 +5,6 @@ use borrow.Author.Tests.{le-leb, lt-leb}
 use Rattle.loops.proofs.BoolLaws.{pick_true, pick_false}
 use Rattle.book.specs.Words.{put}
 use Rattle.room.specs.Room.{filled}
-use borrow.Author.Rules.{rules}
 use Rattle.room.proofs.fill.Goals as goal
 
 pub returns-then-words-out : goal.returns-then-words-out

@@ -27,10 +27,10 @@ abbrev Else-not-base_fits : Type 0
 Else-not-base_fits = lts.Else1 tie.the-claims reads.Pre reads.Post
 
 abbrev In-Good : Type 0
-In-Good = lts.After-known_told tie.the-claims reads.Pre reads.Post
+In-Good = lts.Past-After-known_told tie.the-claims reads.Pre reads.Post
 
 abbrev In-Good-checked : Type 0
-In-Good-checked = lts.After-known_told2 tie.the-claims reads.Pre reads.Post
+In-Good-checked = lts.Past-After-known_told2 tie.the-claims reads.Pre reads.Post
 
 abbrev After-stores_fit : Type 0
 After-stores_fit = lts.After-stores_fit tie.the-claims reads.Pre reads.Post

@@ -7,7 +7,6 @@ use Rattle.book.specs.declared.parts.Counts.{Counts}
 use Rattle.book.specs.Layout.{counts_of}
 use Rattle.fit.specs.Fit.{counts_fit, parts_fit, fit}
 use Rattle.fit.proofs.FitLaws.{counts_within}
-use borrow.Author.Rules.{rules}
 use Rattle.whole.proofs.is_fit.Goals as goal
 use Rattle.whole.proofs.is_fit.Lts as lts
 use Rattle.whole.proofs.is_fit.Tie as tie

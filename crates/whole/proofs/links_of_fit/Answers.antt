@@ -1,9 +1,8 @@
 -- `fit::whole::links_of_fit` meets its contract. The loop's invariant: what was passed is fit.
 -- Assumes nothing.
-use Prim.Native.Nat.{ℕ, ◌≤◌, ◌-◌}
+use Prim.Native.Nat.{ℕ}
 use native.Mathlib.Nat.{le_antisymm}
-use mathlib.Core.Path.{◌≡◌, ◌∙◌, refl, sym, ap}
-use mathlib.Core.Bool.{true}
+use mathlib.Core.Path.{◌∙◌, refl, sym, ap}
 use Rattle.loops.specs.Loops.{every}
 use Rattle.loops.proofs.BoolLaws.{test_passed, test_failed}
 use Rattle.loops.proofs.LoopLaws.{every_none, every_more, every_stop}

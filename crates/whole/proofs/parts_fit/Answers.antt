@@ -3,7 +3,6 @@
 use mathlib.Core.Path.{◌∙◌, sym}
 use Rattle.loops.proofs.BoolLaws.{and_next, and_stop, test_passed, test_failed}
 use Rattle.fit.specs.Fit.{parts_fit}
-use borrow.Author.Rules.{rules}
 use Rattle.whole.proofs.parts_fit.Goals as goal
 
 pub returns-then-not-homes_fit : goal.returns-then-not-homes_fit

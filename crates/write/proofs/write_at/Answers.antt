@@ -46,7 +46,7 @@ abbrev Else-payload-gt-LAST_DAY : Type 0
 Else-payload-gt-LAST_DAY = lts.Else2 tie.the-claims reads.Pre reads.Post
 
 abbrev In-Good : Type 0
-In-Good = lts.After-known_told tie.the-claims reads.Pre reads.Post
+In-Good = lts.Past-After-known_told tie.the-claims reads.Pre reads.Post
 
 abbrev After-index : Type 0
 After-index = lts.After-index tie.the-claims reads.Pre reads.Post
@@ -74,16 +74,16 @@ Else-not-is_roomy = lts.Else5 tie.the-claims reads.Pre reads.Post
 
 -- the steps that later ones look back to: the call's begin, the parts judged, the day, the card, and the crew's home entry
 abbrev begin : Else-not-write_parts_fit → Start
-begin c = c.before.before.before.before.before.before.before.before.before
+begin c = c.before.before.before.before.before.before
 
 abbrev parts : Else-payload-gt-LAST_DAY → Else-not-write_parts_fit
 parts c = c.before.before
 
 abbrev day : In-Good → Else-payload-gt-LAST_DAY
-day c = c.before.before.before.before
+day c = c.before.before
 
 abbrev card : After-index → In-Good
-card c = c.before.before.before.before
+card c = c.before.before.before
 
 abbrev index : Else-clock-book → After-index
 index c = c.before.before
@@ -100,47 +100,45 @@ parts_said :
 parts_said c =
     c.write_parts_fit.ensures ∙ parts_write _ _ _ c.counts_of-n.ensures c.home_depot-d.ensures c.shelf_for-s.ensures
 
-fits : (c : Else-not-write_parts_fit) → let args = (begin c).args in write_fit args.book.now args.c.0 args.k.0 ≡ true
+fits : (c : Else-not-write_parts_fit) → let args = c.args in write_fit args.book.now args.c.0 args.k.0 ≡ true
 fits c =
     let start = begin c in
-    write_named _ _ _ start.pre.0 start.pre.1 start.pre.2 ∙ test_passed (parts_said c.before) c.if-not-write_parts_fit.false-raw
+    write_named _ _ _ start.requires.0 start.requires.1 start.requires.2 ∙ test_passed (parts_said c.before) c.if-not-write_parts_fit.false-raw
 
-dated : (c : Else-payload-gt-LAST_DAY) → (begin (parts c)).args.payload.value ≤ last_day
+dated : (c : Else-payload-gt-LAST_DAY) → c.args.payload.value ≤ last_day
 dated c = omega (arith, c.if-payload-gt-LAST_DAY.false)
 
 -- the card that was made is the one asked for, and its words are the payload's
-good : (c : In-Good) → let p = (begin (parts (day c))).args.payload in card_answer p.diameter p.width ≡ Good c.in-Good.card
+good : (c : In-Good) → let p = c.args.payload in card_answer p.diameter p.width ≡ Good c.in-Good.card
 good c = sym c.card_of.ensures ∙ c.in-Good.is
 
-carded : (c : In-Good) → let p = (begin (parts (day c))).args.payload in card_fit p.diameter p.width ≡ true
+carded : (c : In-Good) → let p = c.args.payload in card_fit p.diameter p.width ≡ true
 carded c = (good_tells _ _ _ (good c)).0
 
-same_payload : (c : In-Good) → let p = (begin (parts (day c))).args.payload in payload_from p.value c.in-Good.card ≡ p
+same_payload : (c : In-Good) → let p = c.args.payload in payload_from p.value c.in-Good.card ≡ p
 same_payload c = payload_back _ _ (good c)
 
 -- where the write stands: the home shelf's clock, and the crew's home entry
 clock_said :
     (c : After-clock_of-clock) →
-    let args = (begin (parts (day c.before))).args in
+    let args = c.args in
     let book = args.book.now in
     c.clock_of-clock.result ≡ clock book (home book args.c.0) (shelf_of book args.k.0)
 clock_said c =
-    let shelf = (parts (day c.before)).before.before.before in
-    let counts = shelf.before.before.before in
-    let args = (begin (parts (day c.before))).args in
+    let args = c.args in
     let book = args.book.now in
     c.clock_of-clock.ensures
-    ∙ (λ z. clock book (shelf.before.home-depot.ensures z) (shelf.shelf-for.ensures z))
-    ∙ ap (λ (n : Counts). clock book (home book args.c.0) (args.k.0 % n.shelves)) counts.Counts-of.ensures
+    ∙ (λ z. clock book (c.home_depot-d.ensures z) (c.shelf_for-s.ensures z))
+    ∙ ap (λ (n : Counts). clock book (home book args.c.0) (args.k.0 % n.shelves)) c.counts_of-n.ensures
 
 entry_said :
     (c : After-index) →
-    let args = (begin (parts (day (card c)))).args in
+    let args = c.args in
     let book = args.book.now in
     get_or book (c.crew_at.result + c.index.result) 0 ≡ crew_vector book args.c.0 (home book args.c.0)
 entry_said c =
-    let book = (begin (parts (day (card c)))).args.book.now in
-    let own = c.index.ensures ∙ (parts (day (card c))).before.before.before.before.home-depot.ensures in
+    let book = c.args.book.now in
+    let own = c.index.ensures ∙ c.home_depot-d.ensures in
     λ z. get_or book (c.crew_at.ensures z + own z) 0
 
 -- the numbers that name the parts
@@ -162,7 +160,7 @@ small c =
 -- what each test that was passed says
 told_no_wait :
     (c : Else-clock-book) →
-    let args = (begin (parts (day (card (index c))))).args in
+    let args = c.args in
     let book = args.book.now in
     crew_vector book args.c.0 (home book args.c.0) ≤ clock book (home book args.c.0) (shelf_of book args.k.0)
 told_no_wait c =
@@ -172,52 +170,46 @@ told_no_wait c =
 
 told_early :
     (c : Else-clock-ge-END) →
-    let args = (begin (parts (day (card (index c.before))))).args in
+    let args = c.args in
     let book = args.book.now in
     clock book (home book args.c.0) (shelf_of book args.k.0) < end
 told_early c = subst (λ (x : ℕ). x < end) (clock_said (index c.before).before.before) c.if-clock-ge-END.false
 
 roomy_said :
     (c : After-is_roomy) →
-    let args = (begin (parts (day (card (index c.before.before.before))))).args in
+    let args = c.args in
     let book = args.book.now in
     c.is_roomy.result ≡ roomy (counts_of book).depots (home book args.c.0) (shelf_of book args.k.0) book
 roomy_said c =
-    let shelf = (parts (day (card (index c.before.before.before)))).before.before.before in
-    let counts = shelf.before.before.before in
-    let args = counts.before.before.before.args in
+    let args = c.args in
     let book = args.book.now in
     c.is_roomy.ensures
-    ∙ (λ z. roomy counts.Counts-of.result.depots (shelf.before.home-depot.ensures z) (shelf.shelf-for.ensures z) book)
-    ∙ ap (λ (n : Counts). roomy n.depots (home book args.c.0) (args.k.0 % n.shelves) book) counts.Counts-of.ensures
+    ∙ (λ z. roomy c.counts_of-n.result.depots (c.home_depot-d.ensures z) (c.shelf_for-s.ensures z) book)
+    ∙ ap (λ (n : Counts). roomy n.depots (home book args.c.0) (args.k.0 % n.shelves) book) c.counts_of-n.ensures
 
 abbrev known : Else-not-is_roomy → In-Good
-known c = card (index c.before.before.before.before)
+known c = card (index c.before.before.before)
 
-passed : (c : Else-not-is_roomy) → let args = (begin (parts (day (known c)))).args in write_number args.book.now args.c.0 args.k.0 args.payload ≡ 0
+passed : (c : Else-not-is_roomy) → let args = c.args in write_number args.book.now args.c.0 args.k.0 args.payload ≡ 0
 passed c =
     let at = parts (day (known c)) in
     let start = begin at in
-    write_good _ _ _ _ (fits at) start.pre.1 start.pre.2 (dated (day (known c))) (carded (known c))
+    write_good _ _ _ _ (fits at) start.requires.1 start.requires.2 (dated (day (known c))) (carded (known c))
     (told_no_wait c.before.before.before) (told_early c.before.before) (test_passed (roomy_said c.before) c.if-not-is_roomy.false-raw)
 
 may :
     (c : Else-not-is_roomy) →
-    let shelf = (parts (day (card (index c.before.before.before.before)))).before.before.before in
-    let counts = shelf.before.before.before in
-    let args = counts.before.before.before.args in
-    MayWrite args.book.now args.c.0 args.k.0 (payload_from args.payload.value (known c).before.card.given.0.0) counts.Counts-of.result.depots
-    shelf.before.home-depot.result.0 shelf.shelf-for.result.0 ((index c.before.before.before.before).before.before.clock-of.result + 1)
+    let args = c.args in
+    MayWrite args.book.now args.c.0 args.k.0 (payload_from args.payload.value c.in-Good.card) c.counts_of-n.result.depots
+    c.home_depot-d.result.0 c.shelf_for-s.result.0 (c.clock_of-clock.result + 1)
 may c =
-    let shelf = (parts (day (card (index c.before.before.before.before)))).before.before.before in
-    let counts = shelf.before.before.before in
-    let args = counts.before.before.before.args in
+    let args = c.args in
     record {
       passed = subst (λ (p : Payload). write_number args.book.now args.c.0 args.k.0 p ≡ 0) (sym (same_payload (known c))) (passed c);
-      depots = ap (λ (n : Counts). n.depots) counts.Counts-of.ensures;
-      depot = shelf.before.home-depot.ensures;
-      shelf = shelf.shelf-for.ensures ∙ ap (λ (n : Counts). args.k.0 % n.shelves) counts.Counts-of.ensures;
-      stamped = ap (λ (x : ℕ). x + 1) (clock_said (index c.before.before.before.before).before.before);
+      depots = ap (λ (n : Counts). n.depots) c.counts_of-n.ensures;
+      depot = c.home_depot-d.ensures;
+      shelf = c.shelf_for-s.ensures ∙ ap (λ (n : Counts). args.k.0 % n.shelves) c.counts_of-n.ensures;
+      stamped = ap (λ (x : ℕ). x + 1) (clock_said (index c.before.before.before).before.before);
     }
 
 pub counts_of-n-requires : goal.counts_of-n-requires
@@ -250,7 +242,7 @@ pub returns-then-payload-gt-LAST_DAY : goal.returns-then-payload-gt-LAST_DAY
 unfolding number_of paper_write
 returns-then-payload-gt-LAST_DAY c =
     let start = begin c.before.before in
-    let e = write_date _ _ _ _ (fits c.before.before) start.pre.1 start.pre.2 c.if-payload-gt-LAST_DAY.true in
+    let e = write_date _ _ _ _ (fits c.before.before) start.requires.1 start.requires.2 c.if-payload-gt-LAST_DAY.true in
     record { answer = by_refusal BadDate _ e; book = after_refused BadDate _ _ e }
 
 pub returns-in_default : goal.returns-in_default
@@ -258,24 +250,24 @@ unfolding number_of paper_write
 returns-in_default c =
     let start = begin (parts c.before.before) in
     let none = bad_tells _ _ (sym c.card_of.ensures ∙ c.in_default.is) in
-    let e = write_card _ _ _ _ (fits (parts c.before.before)) start.pre.1 start.pre.2 (dated c.before.before) none in
+    let e = write_card _ _ _ _ (fits (parts c.before.before)) start.requires.1 start.requires.2 (dated c.before.before) none in
     record { answer = by_refusal BadCard _ e; book = after_refused BadCard _ _ e }
 
 pub clock_of-clock-requires : goal.clock_of-clock-requires
-clock_of-clock-requires c = let h = small (parts (day c)).before.before.before in ((base (begin (parts (day c)))).full, h.0, h.1)
+clock_of-clock-requires c = let h = small (parts (day c)).before.before in ((base (begin (parts (day c)))).full, h.0, h.1)
 
 pub crew_at-requires : goal.crew_at-requires
-crew_at-requires c = (small (parts (day c.before)).before.before.before).2
+crew_at-requires c = (small (parts (day c.before)).before.before).2
 
 pub overflow_add-crew_at : goal.overflow_add-crew_at
-overflow_add-crew_at c = let h = small (parts (day (card c))).before.before.before in omega (arith, h.0, h.2, c.index.ensures, c.crew_at.ensures)
+overflow_add-crew_at c = let h = small (parts (day (card c))).before.before in omega (arith, h.0, h.2, c.index.ensures, c.crew_at.ensures)
 
 pub offset_bounds-book-crew_at : goal.offset_bounds-book-crew_at
-offset_bounds-book-crew_at c = let h = small (parts (day (card c))).before.before.before in omega (arith, h.0, h.2, c.index.ensures, c.crew_at.ensures)
+offset_bounds-book-crew_at c = let h = small (parts (day (card c))).before.before in omega (arith, h.0, h.2, c.index.ensures, c.crew_at.ensures)
 
 pub bounds-book-crew_at : goal.bounds-book-crew_at
 bounds-book-crew_at c =
-    let h = small (parts (day (card c.before.before))).before.before.before in
+    let h = small (parts (day (card c.before.before))).before.before in
     let full = (base (begin (parts (day (card c.before.before))))).full in
     omega (arith, h.0, h.2, full, c.index.ensures, c.crew_at.ensures)
 
@@ -285,7 +277,7 @@ returns-then-clock-book c =
     let known = card c.before.before.before in
     let start = begin (parts (day known)) in
     let late = subst₂ (λ (x y : ℕ). x < y) (clock_said c.before.before.before.before.before) (entry_said c.before.before.before) c.if-clock-book.true in
-    let e = write_wait _ _ _ _ (fits (parts (day known))) start.pre.1 start.pre.2 (dated (day known)) (carded known) late in
+    let e = write_wait _ _ _ _ (fits (parts (day known))) start.requires.1 start.requires.2 (dated (day known)) (carded known) late in
     record { answer = by_refusal Wait _ e; book = after_refused Wait _ _ e }
 
 pub returns-then-clock-ge-END : goal.returns-then-clock-ge-END
@@ -295,23 +287,23 @@ returns-then-clock-ge-END c =
     let known = card at in
     let start = begin (parts (day known)) in
     let ended = subst (λ (x : ℕ). end ≤ x) (clock_said at.before.before) c.if-clock-ge-END.true in
-    let e = write_end _ _ _ _ (fits (parts (day known))) start.pre.1 start.pre.2 (dated (day known)) (carded known) (told_no_wait c.before.before) ended in
+    let e = write_end _ _ _ _ (fits (parts (day known))) start.requires.1 start.requires.2 (dated (day known)) (carded known) (told_no_wait c.before.before) ended in
     record { answer = by_refusal ClockAtEnd _ e; book = after_refused ClockAtEnd _ _ e }
 
 pub is_roomy-requires : goal.is_roomy-requires
 is_roomy-requires c =
-    let shelf = (parts (day (card (index c.before.before)))).before.before.before in
+    let shelf = (parts (day (card (index c.before)))).before.before in
     let h = small shelf in
-    ((base shelf.before.before.before.before.before.before).full, h.3, h.0, h.1)
+    ((base shelf.before.before.before.before).full, h.3, h.0, h.1)
 
 pub returns-then-not-is_roomy : goal.returns-then-not-is_roomy
 unfolding number_of paper_write
 returns-then-not-is_roomy c =
-    let known = card (index c.before.before.before.before) in
+    let known = card (index c.before.before.before) in
     let start = begin (parts (day known)) in
     let full = test_failed (roomy_said c.before) c.if-not-is_roomy.true-raw in
     let e =
-    write_full _ _ _ _ (fits (parts (day known))) start.pre.1 start.pre.2 (dated (day known)) (carded known) (told_no_wait c.before.before.before) (told_early c.before.before) full in
+    write_full _ _ _ _ (fits (parts (day known))) start.requires.1 start.requires.2 (dated (day known)) (carded known) (told_no_wait c.before.before.before) (told_early c.before.before) full in
     record { answer = by_refusal LinkFull _ e; book = after_refused LinkFull _ _ e }
 
 pub overflow_add-clock : goal.overflow_add-clock
@@ -324,6 +316,6 @@ pub returns : goal.returns
 returns c =
     let call = c.write_version in
     let e = (may c.before.before.before.before.before).passed in
-    let args = (begin (parts (day (card (index c.before.before.before.before.before.before.before.before.before))))).args in
+    let args = c.args in
     subst (λ (p : Payload). Write args.book.now args.c.0 args.k.0 p call.result call.new.book) (same_payload (known c.before.before.before.before.before))
     (record { answer = call.ensures.0 ∙ by_done e; book = call.ensures.1 ∙ after_done _ _ e })

@@ -1,6 +1,5 @@
 -- `book::parts::clock_of` meets its contract: the word at the clock's place.
 -- Assumes nothing.
-use borrow.Author.Rules.{rules}
 use Rattle.book.proofs.parts.clock_of.Goals as goal
 
 pub returns : goal.returns

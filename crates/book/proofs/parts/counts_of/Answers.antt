@@ -1,6 +1,5 @@
 -- `book::parts::counts_of` meets its contract: each count is the word at its place.
 -- Assumes nothing.
-use borrow.Author.Rules.{rules}
 use Rattle.book.proofs.parts.counts_of.Goals as goal
 
 pub returns : goal.returns

@@ -1,6 +1,5 @@
 -- `book::parts::home_of` meets its contract: the word at the home's place.
 -- Assumes nothing.
-use borrow.Author.Rules.{rules}
 use Rattle.book.proofs.parts.home_of.Goals as goal
 
 pub returns : goal.returns

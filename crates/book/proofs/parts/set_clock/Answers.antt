@@ -1,6 +1,5 @@
 -- `book::parts::set_clock` meets its contract: the store at the clock's place.
 -- Assumes nothing.
-use borrow.Author.Rules.{rules}
 use Rattle.book.proofs.parts.set_clock.Goals as goal
 
 pub returns : goal.returns

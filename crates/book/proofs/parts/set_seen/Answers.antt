@@ -1,6 +1,5 @@
 -- `book::parts::set_seen` meets its contract: the store at the place of the stamp seen.
 -- Assumes nothing.
-use borrow.Author.Rules.{rules}
 use Rattle.book.proofs.parts.set_seen.Goals as goal
 
 pub returns : goal.returns

@@ -1,7 +1,6 @@
 -- `book::parts::taken_of` meets its contract: the word at the place of the count.
 -- Assumes nothing.
 use mathlib.Core.Path.{◌∙◌}
-use borrow.Author.Rules.{rules}
 use Rattle.book.proofs.parts.taken_of.Goals as goal
 
 pub returns : goal.returns

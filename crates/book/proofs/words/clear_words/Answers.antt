@@ -1,11 +1,9 @@
 -- `book::words::clear_words` meets its contract. The loop's invariant: the words passed are 0.
 -- Assumes nothing.
-use Prim.Native.Nat.{◌≤◌, ◌-◌}
 use native.Mathlib.Nat.{le_antisymm}
-use mathlib.Core.Path.{◌≡◌, refl, sym}
-use lib.ListN.{length, replicate, length-set}
+use mathlib.Core.Path.{refl, sym}
+use lib.ListN.{length-set}
 use borrow.Author.Rules.{rules}
-use Rattle.book.specs.Words.{put}
 use Rattle.book.proofs.WordsLaws.{put_none, zero_step}
 use Rattle.book.proofs.words.clear_words.Goals as goal
 

@@ -1,12 +1,9 @@
 -- What the loop keeps, and what falls. Answers.antt has the idea.
 -- Assumes nothing.
 use Prim.Native.Nat.{◌≤◌, ◌-◌}
-use native.Mathlib.Nat.{le_antisymm}
-use mathlib.Core.Path.{◌≡◌, refl, sym}
-use lib.ListN.{length, replicate, length-set}
-use borrow.Author.Rules.{rules}
+use mathlib.Core.Path.{◌≡◌}
+use lib.ListN.{length, replicate}
 use Rattle.book.specs.Words.{put}
-use Rattle.book.proofs.WordsLaws.{put_none, zero_step}
 use Rattle.book.proofs.words.clear_words.Given as goal
 
 abbrev pub invariant-loop-i : goal.invariant-loop-i

@@ -1,11 +1,10 @@
 -- `book::words::copy_words` meets its contract. The loop's invariant: the words passed are copied; no word is written before it is read.
 -- Assumes nothing.
-use Prim.Native.Nat.{◌≤◌, ◌-◌}
 use native.Mathlib.Nat.{le_antisymm}
-use mathlib.Core.Path.{◌≡◌, ◌∙◌, refl, sym, ap}
-use lib.ListN.{length, length-set}
+use mathlib.Core.Path.{◌∙◌, refl, sym, ap}
+use lib.ListN.{length-set}
 use borrow.Author.Rules.{rules}
-use Rattle.book.specs.Words.{part, put}
+use Rattle.book.specs.Words.{put}
 use Rattle.book.proofs.WordsLaws.{put_none, part_none, copy_step}
 use Rattle.book.proofs.words.copy_words.Goals as goal
 

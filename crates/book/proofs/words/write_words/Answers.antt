@@ -1,8 +1,7 @@
 -- `book::words::write_words` meets its contract. The loop's invariant: the words passed are written.
 -- Assumes nothing.
-use Prim.Native.Nat.{◌≤◌, ◌-◌}
-use mathlib.Core.Path.{◌≡◌, ◌∙◌, refl, sym, ap}
-use lib.ListN.{length, take, length-set}
+use mathlib.Core.Path.{◌∙◌, refl, sym, ap}
+use lib.ListN.{length-set}
 use lib.Seq.{take_all}
 use borrow.Author.Rules.{rules}
 use Rattle.book.specs.Words.{put}

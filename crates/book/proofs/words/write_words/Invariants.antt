@@ -1,12 +1,9 @@
 -- What the loop keeps, and what falls. Answers.antt has the idea.
 -- Assumes nothing.
 use Prim.Native.Nat.{◌≤◌, ◌-◌}
-use mathlib.Core.Path.{◌≡◌, ◌∙◌, refl, sym, ap}
-use lib.ListN.{length, take, length-set}
-use lib.Seq.{take_all}
-use borrow.Author.Rules.{rules}
+use mathlib.Core.Path.{◌≡◌}
+use lib.ListN.{length, take}
 use Rattle.book.specs.Words.{put}
-use Rattle.book.proofs.WordsLaws.{put_none, write_step}
 use Rattle.book.proofs.words.write_words.Given as goal
 
 abbrev pub invariant-loop-i : goal.invariant-loop-i

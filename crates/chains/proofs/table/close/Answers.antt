@@ -1,11 +1,7 @@
 -- `chains::table::close` meets its contract. The loop's invariant: chains through the first k places are bits, and every bit is a chain.
 -- Assumes nothing.
-use Prim.Native.Nat.{◌≤◌, ◌-◌}
-use mathlib.Core.Path.{◌≡◌}
-use lib.ListN.{length}
 use borrow.Author.Rules.{rules}
-use Rattle.chains.specs.Table.{bit}
-use Rattle.chains.proofs.Closing.{Closing, closing_none, closing_more, closing_done}
+use Rattle.chains.proofs.Closing.{closing_none, closing_more, closing_done}
 use Rattle.chains.proofs.table.close.Goals as goal
 
 pub loop-k-init : goal.loop-k-init

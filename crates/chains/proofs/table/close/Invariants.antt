@@ -3,9 +3,8 @@
 use Prim.Native.Nat.{◌≤◌, ◌-◌}
 use mathlib.Core.Path.{◌≡◌}
 use lib.ListN.{length}
-use borrow.Author.Rules.{rules}
 use Rattle.chains.specs.Table.{bit}
-use Rattle.chains.proofs.Closing.{Closing, closing_none, closing_more, closing_done}
+use Rattle.chains.proofs.Closing.{Closing}
 use Rattle.chains.proofs.table.close.Given as goal
 
 abbrev pub invariant-loop-k : goal.invariant-loop-k

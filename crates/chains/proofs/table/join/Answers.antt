@@ -1,8 +1,6 @@
 -- `chains::table::join` meets its contract. The loop's invariant: the words passed are joined with row k, which no turn changes.
 -- Assumes nothing.
-use Prim.Native.Nat.{◌≤◌, ◌-◌}
 use borrow.Author.Rules.{rules}
-use Rattle.chains.specs.Table.{bit, Adds, joins, turns}
 use Rattle.chains.proofs.TableLaws.{turns_none, turns_joined, turns_done}
 use Rattle.chains.proofs.table.join.Goals as goal
 

@@ -1,9 +1,7 @@
 -- What the loop keeps, and what falls. Answers.antt has the idea.
 -- Assumes nothing.
 use Prim.Native.Nat.{◌≤◌, ◌-◌}
-use borrow.Author.Rules.{rules}
 use Rattle.chains.specs.Table.{bit, Adds, joins, turns}
-use Rattle.chains.proofs.TableLaws.{turns_none, turns_joined, turns_done}
 use Rattle.chains.proofs.table.join.Given as goal
 
 abbrev pub invariant-loop-p : goal.invariant-loop-p

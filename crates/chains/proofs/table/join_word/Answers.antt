@@ -1,6 +1,5 @@
 -- `chains::table::join_word` meets its contract. The row of the word has bit k, and the word is joined; or it has not, and nothing is added.
 -- Assumes nothing.
-use borrow.Author.Rules.{rules}
 use Rattle.loops.proofs.BoolLaws.{test_passed, test_failed}
 use Rattle.chains.proofs.TableLaws.{adds_joined, adds_unjoined}
 use Rattle.chains.proofs.table.join_word.Goals as goal

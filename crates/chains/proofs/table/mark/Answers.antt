@@ -1,6 +1,5 @@
 -- `chains::table::mark` meets its contract. One bit of one word.
 -- Assumes nothing.
-use borrow.Author.Rules.{rules}
 use Rattle.chains.proofs.TableLaws.{adds_one}
 use Rattle.chains.proofs.table.mark.Goals as goal
 

@@ -3,7 +3,6 @@
 use mathlib.Core.Path.{◌∙◌, sym}
 use Rattle.loops.proofs.BoolLaws.{and_next, and_stop, test_passed, test_failed}
 use Rattle.fit.specs.Fit.{counts_fit}
-use borrow.Author.Rules.{rules}
 use Rattle.fit.proofs.counts.counts_fit.Goals as goal
 
 pub returns-then-not-is_between : goal.returns-then-not-is_between

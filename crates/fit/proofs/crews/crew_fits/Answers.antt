@@ -3,7 +3,6 @@
 use mathlib.Core.Path.{◌∙◌, refl}
 use Rattle.fit.specs.Fit.{crew_fit}
 use Rattle.fit.proofs.RangeLaws.{range_lent, range_all}
-use borrow.Author.Rules.{rules}
 use Rattle.fit.proofs.crews.crew_fits.Goals as goal
 
 pub returns : goal.returns

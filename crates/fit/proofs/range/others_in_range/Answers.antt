@@ -2,7 +2,6 @@
 -- Assumes nothing.
 use mathlib.Core.Path.{◌∙◌}
 use Rattle.fit.proofs.RangeLaws.{range_ends}
-use borrow.Author.Rules.{rules}
 use Rattle.fit.proofs.range.others_in_range.Goals as goal
 
 pub returns : goal.returns

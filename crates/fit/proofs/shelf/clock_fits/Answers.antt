@@ -1,7 +1,6 @@
 -- `fit::shelf::clock_fits` meets its contract: the word at its place.
 -- Assumes nothing.
 use Rattle.fit.specs.Fit.{clock_fit}
-use borrow.Author.Rules.{rules}
 use Rattle.fit.proofs.shelf.clock_fits.Goals as goal
 
 pub returns : goal.returns

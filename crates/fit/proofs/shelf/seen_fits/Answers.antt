@@ -3,7 +3,6 @@
 use mathlib.Core.Path.{◌∙◌}
 use Rattle.fit.specs.Fit.{seen_fit}
 use Rattle.fit.proofs.RangeLaws.{range_lent}
-use borrow.Author.Rules.{rules}
 use Rattle.fit.proofs.shelf.seen_fits.Goals as goal
 
 pub returns : goal.returns

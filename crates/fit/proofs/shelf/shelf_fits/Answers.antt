@@ -3,7 +3,6 @@
 use mathlib.Core.Path.{◌∙◌, sym}
 use Rattle.loops.proofs.BoolLaws.{and_next, and_stop, test_passed, test_failed}
 use Rattle.fit.specs.Fit.{shelf_fit}
-use borrow.Author.Rules.{rules}
 use Rattle.fit.proofs.shelf.shelf_fits.Goals as goal
 
 pub returns-then-not-clock_fits : goal.returns-then-not-clock_fits

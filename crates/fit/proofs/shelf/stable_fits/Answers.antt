@@ -5,7 +5,6 @@ use borrow.Author.Tests.{eq-eqb, ne_eqb}
 use Rattle.loops.proofs.BoolLaws.{and_next, and_stop}
 use Rattle.fit.specs.Fit.{stable_fit}
 use Rattle.fit.proofs.RangeLaws.{range_lent}
-use borrow.Author.Rules.{rules}
 use Rattle.fit.proofs.shelf.stable_fits.Goals as goal
 
 pub returns-then-book-at-ne0 : goal.returns-then-book-at-ne0

@@ -1,6 +1,5 @@
 -- `line::answers::answer_value` meets its contract: the 0, then what is told of the bearing.
 -- Assumes nothing.
-use borrow.Author.Rules.{rules}
 use Rattle.line.proofs.PrintLaws.{room_byte, wrote_after, wrote_length}
 use Rattle.line.proofs.answers.answer_value.Goals as goal
 

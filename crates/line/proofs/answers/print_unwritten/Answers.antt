@@ -2,7 +2,6 @@
 -- Assumes nothing.
 use native.Mathlib.Omega.{arith}
 use lib.ListN.{length-set}
-use borrow.Author.Rules.{rules}
 use Rattle.line.proofs.PrintLaws.{room_byte, wrote_after, wrote_length}
 use Rattle.line.proofs.answers.print_unwritten.Goals as goal
 

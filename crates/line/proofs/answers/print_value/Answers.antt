@@ -2,7 +2,6 @@
 -- Assumes nothing.
 use native.Mathlib.Omega.{arith}
 use lib.ListN.{take}
-use borrow.Author.Rules.{rules}
 use mathlib.Core.List.{[], ◌∷◌}
 use Rattle.line.specs.Grammar.{spaced}
 use Rattle.line.proofs.PrintLaws.{room_first, room_then, wrote_then, wrote_length}

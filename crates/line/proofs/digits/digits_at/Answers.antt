@@ -1,13 +1,11 @@
 -- `line::digits::digits_at` meets its contract. The loop's invariant: the digits passed and those that are left are all of them.
 -- Assumes nothing.
-use Prim.Native.Nat.{◌+◌, ◌-◌, ◌≤◌}
 use native.Mathlib.Omega.{arith}
 use mathlib.Core.Path.{◌≡◌, refl}
-use mathlib.Core.Logic.{⊎_elim}
 use mathlib.Core.Bool.{false}
-use lib.ListN.{length, drop, get_or}
+use lib.ListN.{get_or}
 use borrow.Author.Rules.{rules}
-use Rattle.line.specs.Number.{digit_run, is_digit}
+use Rattle.line.specs.Number.{is_digit}
 use Rattle.line.proofs.DigitLaws.{digit_yes, digit_low, digit_high, run_more, run_stop, run_end}
 use Rattle.line.proofs.digits.digits_at.Goals as goal
 use Rattle.line.proofs.digits.digits_at.Goals.{in_default-via-then-b-lt48, in_default-via-else-b-lt48+else-b-lt58}

@@ -1,12 +1,10 @@
 -- `line::digits::value_at` meets its contract. The loop's invariant: the digits that are left, read after the value so far, give the
 -- whole value; and what k digits spell is below 10 ^ k, so that ten digits never wrap.
 -- Assumes nothing.
-use Prim.Native.Nat.{◌+◌, ◌-◌, ◌^◌, ◌≤◌, ◌<◌}
+use Prim.Native.Nat.{◌-◌, ◌<◌}
 use native.Mathlib.Omega.{arith}
-use mathlib.Core.Path.{◌≡◌, refl, sym, ◌∙◌}
-use lib.ListN.{length, drop}
+use mathlib.Core.Path.{refl, sym, ◌∙◌}
 use borrow.Author.Rules.{rules}
-use Rattle.line.specs.Number.{digit_run, value_from}
 use Rattle.line.proofs.DigitLaws.{digit_yes, digit_low, digit_high, run_more, value_more, value_stop, value_end, value_small, value_start, value_grows}
 use Rattle.line.proofs.digits.value_at.Goals as goal
 use Rattle.line.proofs.digits.value_at.Goals.{In-48-to-57}

@@ -1,8 +1,6 @@
 -- `line::printer::print_number` meets its contract. The measure is the number: the digits of n / 10 are printed first, then the last digit.
 -- Assumes nothing.
 use native.Mathlib.Omega.{arith}
-use lib.ListN.{length-set}
-use borrow.Author.Rules.{rules}
 use Rattle.line.proofs.PrintLaws.{room_one, wrote_one, room_first, room_front, room_then, wrote_number}
 use Rattle.line.proofs.printer.+print_number.Goals as goal
 

@@ -1,11 +1,7 @@
 -- `line::printer::print_numbers` meets its contract. The loop's invariant: the numbers passed are written.
 -- Assumes nothing.
-use Prim.Native.Nat.{◌≤◌, ◌-◌}
 use native.Mathlib.Nat.{le_antisymm, lt_of_lt_of_le}
-use lib.ListN.{take}
 use borrow.Author.Rules.{rules}
-use Rattle.line.specs.Grammar.{spaced}
-use Rattle.line.specs.Printing.{Wrote}
 use Rattle.line.proofs.PrintLaws.{wrote_nothing, wrote_same, wrote_length, wrote_spaced, room_spaced, spaced_none}
 use Rattle.line.proofs.printer.print_numbers.Goals as goal
 

@@ -2,7 +2,6 @@
 -- Assumes nothing.
 use mathlib.Core.Path.{◌∙◌}
 use lib.ListN.{length-set}
-use borrow.Author.Rules.{rules}
 use Rattle.line.proofs.PrintLaws.{room_byte, wrote_after}
 use Rattle.line.proofs.printer.print_spaced.Goals as goal
 

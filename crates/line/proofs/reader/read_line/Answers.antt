@@ -4,7 +4,6 @@ use Prim.Native.Nat.{ℕ, ◌≤◌}
 use mathlib.Core.Path.{◌≡◌, sym, ◌∙◌, ap}
 use mathlib.Core.List.{List}
 use lib.ListN.{length, get_or, drop}
-use borrow.Author.Rules.{rules}
 use Rattle.line.specs.Grammar.{letter, least, most}
 use Rattle.line.specs.Reading.{numbers_in, counted, reading, line_of}
 use Rattle.request.specs.declared.ask.Event.{Event}

@@ -1,12 +1,9 @@
 -- `line::reader::read_numbers` meets its contract. The loop's invariant: the numbers stored, with those that are left, give the answer.
 -- Assumes nothing.
-use Prim.Native.Nat.{◌-◌, ◌≤◌}
 use native.Mathlib.Nat.{sub-zero}
 use native.Mathlib.Omega.{arith}
-use mathlib.Core.Path.{◌≡◌, sym, ◌∙◌, ap}
-use lib.ListN.{length, drop}
+use mathlib.Core.Path.{sym, ◌∙◌, ap}
 use borrow.Author.Rules.{rules}
-use Rattle.line.specs.Reading.{numbers_in, counted, line_of}
 use Rattle.line.proofs.NumberLaws.{missed, found}
 use Rattle.line.proofs.ReadingLaws.{numbers_end, numbers_full, numbers_unspaced, numbers_missed, numbers_found}
 use Rattle.line.proofs.ReadingLaws.{answered, answered_start, answered_few, answered_enough, answered_refused, answered_turn}

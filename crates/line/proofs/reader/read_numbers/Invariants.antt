@@ -1,15 +1,10 @@
 -- What the loop keeps, and what falls. Answers.antt has the idea.
 -- Assumes nothing.
 use Prim.Native.Nat.{◌-◌, ◌≤◌}
-use native.Mathlib.Nat.{sub-zero}
-use native.Mathlib.Omega.{arith}
-use mathlib.Core.Path.{◌≡◌, sym, ◌∙◌, ap}
+use mathlib.Core.Path.{◌≡◌}
 use lib.ListN.{length, drop}
-use borrow.Author.Rules.{rules}
 use Rattle.line.specs.Reading.{numbers_in, counted, line_of}
-use Rattle.line.proofs.NumberLaws.{missed, found}
-use Rattle.line.proofs.ReadingLaws.{numbers_end, numbers_full, numbers_unspaced, numbers_missed, numbers_found}
-use Rattle.line.proofs.ReadingLaws.{answered, answered_start, answered_few, answered_enough, answered_refused, answered_turn}
+use Rattle.line.proofs.ReadingLaws.{answered}
 use Rattle.line.proofs.reader.read_numbers.Given as goal
 
 abbrev pub invariant-loop-i : goal.invariant-loop-i

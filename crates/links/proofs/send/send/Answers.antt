@@ -53,5 +53,5 @@ pub returns : goal.returns
 unfolding sent
 returns c =
     let args = c.args in
-    rw (le_antisymm c.loop-to.invariant.0 c.loop-to-test.false) c.before.before c.loop-to.invariant.2
+    rw (le_antisymm c.loop-to.invariant.0 c.loop-to-test.false) at c.loop-to.invariant.2
     ∙ ap (times args.n (sent_to args.d.0 args.s.0 args.message.now)) c.set_clock.ensures

@@ -2,7 +2,6 @@
 -- Assumes nothing.
 use mathlib.Core.Path.{◌≡◌, ◌∙◌, sym, ap}
 use Prim.Native.Nat.{ℕ}
-use borrow.Author.Rules.{rules}
 use Rattle.order.specs.Order.{above}
 use Rattle.order.specs.Record.{rank_in}
 use Rattle.loops.proofs.BoolLaws.{pick_true, pick_false}

@@ -1,7 +1,7 @@
 -- `order::record::is_above` meets its contract. Sums that differ decide. Where they are equal, the loop's invariant: the entries passed are
 -- equal, so the first difference decides, and where there is none the origins do.
 -- Assumes nothing.
-use Prim.Native.Nat.{ℕ, ◌≤◌, ◌<◌, ◌-◌}
+use Prim.Native.Nat.{ℕ, ◌<◌}
 use native.Mathlib.Nat.{lt_of_lt_of_le}
 use mathlib.Core.Path.{◌≡◌, ◌∙◌, sym, ap, ap₂}
 use mathlib.Core.Bool.{not}

@@ -1,12 +1,8 @@
 -- `order::vector::is_covered` meets its contract. The loop's invariant: the entries passed are covered.
 -- Assumes nothing.
-use Prim.Native.Nat.{◌≤◌, ◌-◌}
 use native.Mathlib.Nat.{le_antisymm}
-use mathlib.Core.Path.{◌≡◌, sym}
-use mathlib.Core.Logic.{⊎_elim}
-use mathlib.Core.Bool.{true}
+use mathlib.Core.Path.{sym}
 use borrow.Author.Rules.{rules}
-use Rattle.order.specs.Vector.{vector_in, covered}
 use Rattle.order.proofs.VectorLaws.{covered_none, covered_more, covered_stop}
 use Rattle.order.proofs.vector.is_covered.Goals as goal
 use Rattle.order.proofs.vector.is_covered.Goals.{then-x-own+else-v-x, else-x-own}

@@ -1,11 +1,8 @@
 -- `order::vector::is_zero` meets its contract. The loop's invariant: the entries passed are 0.
 -- Assumes nothing.
-use Prim.Native.Nat.{◌≤◌, ◌-◌}
 use native.Mathlib.Nat.{le_antisymm}
-use mathlib.Core.Path.{◌≡◌, sym}
-use mathlib.Core.Bool.{true}
+use mathlib.Core.Path.{sym}
 use borrow.Author.Rules.{rules}
-use Rattle.order.specs.Vector.{vector_in, zeros}
 use Rattle.order.proofs.VectorLaws.{zeros_none, zeros_more, zeros_stop}
 use Rattle.order.proofs.vector.is_zero.Goals as goal
 

@@ -1,11 +1,9 @@
 -- `order::vector::merge` meets its contract. The loop's invariant: the words are those that the turns so far make.
 -- Assumes nothing.
-use Prim.Native.Nat.{◌≤◌, ◌-◌}
 use native.Mathlib.Nat.{le_antisymm}
-use mathlib.Core.Path.{◌≡◌, ◌∙◌, refl}
-use lib.ListN.{length}
+use mathlib.Core.Path.{◌∙◌, refl}
 use borrow.Author.Rules.{rules}
-use Rattle.order.specs.Vector.{vector_in, merged_at}
+use Rattle.order.specs.Vector.{merged_at}
 use Rattle.loops.proofs.LoopLaws.{times_none, times_more}
 use Rattle.order.proofs.vector.merge.Goals as goal
 

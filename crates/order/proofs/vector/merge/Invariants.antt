@@ -1,12 +1,9 @@
 -- What the loop keeps, and what falls. Answers.antt has the idea.
 -- Assumes nothing.
 use Prim.Native.Nat.{◌≤◌, ◌-◌}
-use native.Mathlib.Nat.{le_antisymm}
-use mathlib.Core.Path.{◌≡◌, ◌∙◌, refl}
+use mathlib.Core.Path.{◌≡◌}
 use lib.ListN.{length}
-use borrow.Author.Rules.{rules}
 use Rattle.order.specs.Vector.{vector_in, merged_at}
-use Rattle.loops.proofs.LoopLaws.{times_none, times_more}
 use Rattle.order.proofs.vector.merge.Given as goal
 
 abbrev pub invariant-loop-x : goal.invariant-loop-x

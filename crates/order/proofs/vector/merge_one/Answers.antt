@@ -1,6 +1,5 @@
 -- `order::vector::merge_one` meets its contract: the three cases of one entry's maximum.
 -- Assumes nothing.
-use borrow.Author.Rules.{rules}
 use Rattle.order.proofs.VectorLaws.{merge_one_own, merge_one_up, merge_one_stays}
 use Rattle.order.proofs.vector.merge_one.Goals as goal
 

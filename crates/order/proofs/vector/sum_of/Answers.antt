@@ -1,12 +1,10 @@
 -- `order::vector::sum_of` meets its contract. The loop's invariant: the total is the sum of the entries passed, and so many entries of 32 bits
 -- make no more than so many times the largest, which 64 bits hold.
 -- Assumes nothing.
-use Prim.Native.Nat.{◌≤◌, ◌-◌, ◌*◌}
 use native.Mathlib.Nat.{le_antisymm}
 use native.Mathlib.Omega.{arith}
-use mathlib.Core.Path.{◌≡◌, sym}
+use mathlib.Core.Path.{sym}
 use borrow.Author.Rules.{rules}
-use Rattle.order.specs.Vector.{vector_in, sum}
 use Rattle.order.proofs.VectorLaws.{sum_none, sum_more}
 use Rattle.order.proofs.vector.sum_of.Goals as goal
 

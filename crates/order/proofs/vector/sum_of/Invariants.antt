@@ -1,12 +1,8 @@
 -- What the loop keeps, and what falls. Answers.antt has the idea.
 -- Assumes nothing.
 use Prim.Native.Nat.{◌≤◌, ◌-◌, ◌*◌}
-use native.Mathlib.Nat.{le_antisymm}
-use native.Mathlib.Omega.{arith}
-use mathlib.Core.Path.{◌≡◌, sym}
-use borrow.Author.Rules.{rules}
+use mathlib.Core.Path.{◌≡◌}
 use Rattle.order.specs.Vector.{vector_in, sum}
-use Rattle.order.proofs.VectorLaws.{sum_none, sum_more}
 use Rattle.order.proofs.vector.sum_of.Given as goal
 
 abbrev pub invariant-loop-x : goal.invariant-loop-x

@@ -4,7 +4,6 @@ use mathlib.Core.Path.{sym, ◌∙◌, ap}
 use Rattle.paper.specs.declared.answer.Answer.{Answer}
 use Rattle.paper.specs.Calls.{number_in}
 use Rattle.paper.specs.Answers.{paper}
-use borrow.Author.Rules.{rules}
 use Rattle.paper.proofs.number.number_in.Goals as goal
 
 pub returns-in-Done : goal.returns-in-Done

@@ -7,7 +7,6 @@ use mathlib.Core.List.{List}
 use lib.ListN.{length, take, drop, length-drop, drop_of_length-le}
 use lib.Seq.{take-length, drop-length}
 use Rattle.request.specs.Requests.{own_numbers, beside_in}
-use borrow.Author.Rules.{rules}
 use Rattle.request.proofs.ask.beside_in.Goals as goal
 
 -- all that follows the first k

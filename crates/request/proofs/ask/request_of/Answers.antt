@@ -7,7 +7,6 @@ use Rattle.request.specs.declared.ask.Event.{Event}
 use Rattle.request.specs.declared.ask.Request.{Request}
 use Rattle.request.specs.declared.ask.Request.TheVariants as request
 use Rattle.request.specs.Requests.{request_in}
-use borrow.Author.Rules.{rules}
 use Rattle.request.proofs.ask.request_of.Goals as goal
 
 -- an event, known by its case

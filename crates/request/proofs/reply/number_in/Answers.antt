@@ -8,7 +8,6 @@ use Rattle.paper.specs.Answers.{told_all}
 use Rattle.request.specs.declared.reply.Outcome.{Outcome}
 use Rattle.request.specs.declared.reply.Reply.{Reply}
 use Rattle.request.specs.Replies.{paper_outcome, on_paper}
-use borrow.Author.Rules.{rules}
 use Rattle.request.proofs.reply.number_in.Goals as goal
 
 -- a reply, known by its outcome

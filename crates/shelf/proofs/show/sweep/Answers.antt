@@ -15,7 +15,7 @@ loop-i-init c = (search rules, refl, sweep_none _ _ _ _ _)
 pub show_slot-kept-requires : goal.show_slot-kept-requires
 show_slot-kept-requires c =
     let args = c.args in
-    let kept = sweep_kept args.n args.d.0 args.s.0 args.q.0 c.loop-i.i args.book.now c.loop-i.book c.loop-i.auto.book c.loop-i.invariant.2 in
+    let kept = sweep_kept args.n args.d.0 args.s.0 args.q.0 c.loop-i.i args.book.now c.loop-i.book c.loop-i.kept c.loop-i.invariant.2 in
     let test = c.loop-i-test.true in
     (search rules, search rules, search rules, search rules, search rules, search rules, kept, sweep_bearing _ _ _ _ _ _ _ _ c.loop-i.invariant.2 c.requires.4 (search rules) (c.requires.6 _ test))
 

@@ -2,7 +2,6 @@
 -- Assumes nothing.
 use mathlib.Core.Path.{◌∙◌, refl, sym, ap}
 use lib.Dec.{eqb}
-use borrow.Author.Rules.{rules}
 use borrow.Author.Tests.{le-leb, lt-leb, lt-ltb, eq-eqb, ne_eqb}
 use Rattle.loops.proofs.BoolLaws.{test_passed, test_failed}
 use Rattle.look.proofs.LookLaws.{kept_looked, positive}

@@ -1,7 +1,6 @@
 -- `versions::version::shelf_of` meets its contract: the numeral is the number that it was tested to be.
 -- Assumes nothing.
 use mathlib.Core.Path.{refl}
-use borrow.Author.Rules.{rules}
 use Rattle.look.proofs.LookLaws.{mod_by}
 use Rattle.versions.proofs.version.shelf_of.Goals as goal
 

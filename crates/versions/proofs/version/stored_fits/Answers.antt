@@ -3,7 +3,6 @@
 use mathlib.Core.Path.{◌∙◌, ap}
 use Rattle.book.proofs.WordsLaws.{part_from}
 use Rattle.fit.specs.Fit.{kept_fit, stored_fit}
-use borrow.Author.Rules.{rules}
 use Rattle.versions.proofs.version.stored_fits.Goals as goal
 
 pub returns : goal.returns
