@@ -8,7 +8,7 @@ use mathlib.Core.Path.{◌≡◌, refl, sym, ◌∙◌, ap, ap₂}
 use mathlib.Core.Logic.{⊎_elim}
 use mathlib.Core.List.{List, [], ◌∷◌, ◌++◌, append_assoc}
 use lib.ListN.{length, get_or, set, take, drop, length-append, get_or-append}
-use lib.Seq.{sets, get_or-append-add, get_or-drop, get_or-take, take-add, drop-drop, drop-cons}
+use lib.Seq.{sets, get_or-append-add, take-add, drop-drop, drop-cons}
 use Rattle.loops.proofs.BoolLaws.{eq_or_ne}
 use Rattle.book.specs.Words.{part, put}
 use Rattle.wire.specs.Wire.{byte_limit, half_limit, word_limit, half_bytes, half_at, word_bytes, word_of, word_at, joined, Below}

@@ -8,7 +8,6 @@ use Rattle.book.specs.Layout.{counts_of}
 use Rattle.fit.specs.Fit.{counts_fit, homes_fit}
 use Rattle.named.specs.Named.{base_fit}
 use Rattle.fit.proofs.FitLaws.{counts_within}
-use borrow.Author.Rules.{rules}
 use Rattle.named_call.proofs.base_fits.Goals as goal
 use Rattle.named_call.proofs.base_fits.Lts as lts
 use Rattle.named_call.proofs.base_fits.Tie as tie

@@ -3,7 +3,6 @@
 use Prim.Native.Nat.{ℕ, ◌<◌}
 use mathlib.Core.Path.{◌∙◌, sym, subst}
 use Rattle.named.proofs.NamedLaws.{below_at}
-use borrow.Author.Rules.{rules}
 use Rattle.named_call.proofs.bearing_at.Goals as goal
 
 pub nth-requires : goal.nth-requires

@@ -1,11 +1,9 @@
 -- `named_call::listed_fit` meets its contract: a loop whose invariant is that what was passed is fit.
 -- Assumes nothing.
-use Prim.Native.Nat.{ℕ, ◌≤◌, ◌<◌, ◌-◌}
+use Prim.Native.Nat.{ℕ, ◌<◌}
 use native.Mathlib.Nat.{le_antisymm, lt_of_lt_of_le}
 use mathlib.Core.Path.{◌≡◌, ◌∙◌, sym, ap, subst}
-use mathlib.Core.Bool.{true}
-use lib.ListN.{length, get_or}
-use Rattle.loops.specs.Loops.{every}
+use lib.ListN.{get_or}
 use Rattle.loops.proofs.BoolLaws.{test_passed, test_failed}
 use Rattle.loops.proofs.LoopLaws.{every_none, every_more, every_stop}
 use Rattle.fit.specs.Fit.{stored_fit}

@@ -1,17 +1,11 @@
 -- What the loop keeps, and what falls. Answers.antt has the idea.
 -- Assumes nothing.
-use Prim.Native.Nat.{ℕ, ◌≤◌, ◌<◌, ◌-◌}
-use native.Mathlib.Nat.{le_antisymm, lt_of_lt_of_le}
-use mathlib.Core.Path.{◌≡◌, ◌∙◌, sym, ap, subst}
+use Prim.Native.Nat.{◌≤◌, ◌-◌}
+use mathlib.Core.Path.{◌≡◌}
 use mathlib.Core.Bool.{true}
 use lib.ListN.{length, get_or}
 use Rattle.loops.specs.Loops.{every}
-use Rattle.loops.proofs.BoolLaws.{test_passed, test_failed}
-use Rattle.loops.proofs.LoopLaws.{every_none, every_more, every_stop}
 use Rattle.fit.specs.Fit.{stored_fit}
-use Rattle.named.specs.Named.{listed_fit}
-use Rattle.named.proofs.NamedLaws.{below_at}
-use borrow.Author.Rules.{rules}
 use Rattle.named_call.proofs.listed_fit.Given as goal
 
 abbrev pub invariant-loop-i : goal.invariant-loop-i

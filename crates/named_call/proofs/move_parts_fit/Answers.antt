@@ -3,7 +3,6 @@
 use mathlib.Core.Path.{◌∙◌, sym}
 use Rattle.loops.proofs.BoolLaws.{and_next, and_stop, test_passed, test_failed}
 use Rattle.named.specs.Named.{move_parts}
-use borrow.Author.Rules.{rules}
 use Rattle.named_call.proofs.move_parts_fit.Goals as goal
 
 pub returns-then-not-crew_fits : goal.returns-then-not-crew_fits

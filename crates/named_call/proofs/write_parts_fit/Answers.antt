@@ -2,7 +2,6 @@
 -- Assumes nothing.
 use mathlib.Core.Path.{◌∙◌, sym}
 use Rattle.loops.proofs.BoolLaws.{and_next, and_stop, test_passed, test_failed}
-use borrow.Author.Rules.{rules}
 use Rattle.named_call.proofs.write_parts_fit.Goals as goal
 
 pub returns-then-not-read_parts_fit : goal.returns-then-not-read_parts_fit

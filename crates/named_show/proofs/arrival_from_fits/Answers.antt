@@ -3,7 +3,6 @@
 use mathlib.Core.Path.{◌∙◌, sym}
 use borrow.Author.Tests.{eq-eqb, ne_eqb}
 use Rattle.loops.proofs.BoolLaws.{or_next, or_stop}
-use borrow.Author.Rules.{rules}
 use Rattle.named_show.proofs.arrival_from_fits.Goals as goal
 
 pub returns-then-index : goal.returns-then-index

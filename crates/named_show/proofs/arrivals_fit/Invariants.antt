@@ -1,16 +1,12 @@
 -- What the loop keeps, and what falls. Answers.antt has the idea.
 -- Assumes nothing.
-use Prim.Native.Nat.{ℕ, ◌≤◌, ◌-◌}
-use native.Mathlib.Nat.{le_antisymm}
-use mathlib.Core.Path.{◌≡◌, ◌∙◌, refl, sym, ap}
+use Prim.Native.Nat.{◌≤◌, ◌-◌}
+use mathlib.Core.Path.{◌≡◌}
 use mathlib.Core.Bool.{true}
 use Rattle.loops.specs.Loops.{every}
-use Rattle.loops.proofs.BoolLaws.{test_passed, test_failed}
-use Rattle.loops.proofs.LoopLaws.{every_none, every_more, every_stop}
 use mathlib.Core.Bool.{◌||◌}
 use lib.Dec.{eqb}
 use Rattle.named.specs.Named.{arrival_fit}
-use borrow.Author.Rules.{rules}
 use Rattle.named_show.proofs.arrivals_fit.Given as goal
 
 abbrev pub invariant-loop-i : goal.invariant-loop-i

@@ -7,7 +7,6 @@ use Rattle.order.specs.Record.{bearing_of}
 use Rattle.book.specs.Layout.{slot, record_of}
 use Rattle.fit.specs.Fit.{stored_fit}
 use Rattle.messages.proofs.MessageLaws.{bearing_there}
-use borrow.Author.Rules.{rules}
 use Rattle.named_show.proofs.place_fits.Goals as goal
 use Rattle.named_show.proofs.place_fits.Lts as lts
 use Rattle.named_show.proofs.place_fits.Tie as tie

@@ -1,15 +1,9 @@
 -- `named_show::places_fit` meets its contract: a loop whose invariant is that what was passed is fit.
 -- Assumes nothing.
-use Prim.Native.Nat.{◌≤◌, ◌-◌}
 use native.Mathlib.Nat.{le_antisymm}
-use mathlib.Core.Path.{◌≡◌, sym}
-use mathlib.Core.Bool.{true}
-use Rattle.loops.specs.Loops.{every}
+use mathlib.Core.Path.{sym}
 use Rattle.loops.proofs.BoolLaws.{test_passed, test_failed}
 use Rattle.loops.proofs.LoopLaws.{every_none, every_more, every_stop}
-use Rattle.order.specs.Record.{bearing_of}
-use Rattle.book.specs.Layout.{slot, record_of}
-use Rattle.fit.specs.Fit.{stored_fit}
 use borrow.Author.Rules.{rules}
 use Rattle.named_show.proofs.places_fit.Goals as goal
 

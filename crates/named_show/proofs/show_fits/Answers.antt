@@ -3,7 +3,6 @@
 use mathlib.Core.Path.{◌∙◌, sym}
 use Rattle.loops.proofs.BoolLaws.{and_next, and_stop, test_passed, test_failed}
 use Rattle.named.specs.Named.{show_fit}
-use borrow.Author.Rules.{rules}
 use Rattle.named_show.proofs.show_fits.Goals as goal
 
 pub returns-then-not-stable_fits : goal.returns-then-not-stable_fits

@@ -1,7 +1,6 @@
 -- `wire::half_at` meets its contract.
 -- Assumes nothing.
 use Rattle.wire.specs.Wire.{half_at}
-use borrow.Author.Rules.{rules}
 use Rattle.wire.proofs.half_at.Goals as goal
 
 pub returns : goal.returns

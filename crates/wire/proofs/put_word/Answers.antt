@@ -5,7 +5,6 @@ use native.Mathlib.Omega.{arith}
 use lib.ListN.{length-set}
 use Rattle.book.specs.Words.{put}
 use Rattle.wire.specs.Wire.{word_bytes}
-use borrow.Author.Rules.{rules}
 use Rattle.wire.proofs.put_word.Goals as goal
 
 pub bounds-out-at-2 : goal.bounds-out-at-2

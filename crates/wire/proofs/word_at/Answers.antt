@@ -1,7 +1,6 @@
 -- `wire::word_at` meets its contract.
 -- Assumes nothing.
 use Rattle.wire.specs.Wire.{word_at}
-use borrow.Author.Rules.{rules}
 use Rattle.wire.proofs.word_at.Goals as goal
 
 pub returns : goal.returns

@@ -2,7 +2,6 @@
 -- Assumes nothing.
 use mathlib.Core.Path.{refl}
 use Rattle.wire.specs.Wire.{word_of}
-use borrow.Author.Rules.{rules}
 use Rattle.wire.proofs.word_of.Goals as goal
 
 pub returns : goal.returns
