@@ -25,7 +25,7 @@ pub loop-more-preserved : goal.loop-more-preserved
 loop-more-preserved c =
     let call = c.read_piece-left in
     let inv = c.loop-more.invariant in
-    (call.auto.words ∙ inv.0, call.auto.line ∙ inv.1, call.auto.input ∙ inv.2, seen_more _ inv.3 call.ensures.0 call.ensures.1)
+    (call.auto.words ∙ inv.0, call.auto.line ∙ inv.1, call.auto.input ∙ inv.2, seen_more _ inv.3 call.ensures.fits call.ensures.lines_after)
 
 pub shape_of-words-else-pieces-gt0 : goal.shape_of-words-else-pieces-gt0
 shape_of-words-else-pieces-gt0 c = c.loop-more.invariant.0

@@ -21,7 +21,7 @@ pub feed-place-requires : goal.feed-place-requires
 feed-place-requires c = c.loop-i.invariant.1.fits
 
 pub loop-i-preserved : goal.loop-i-preserved
-loop-i-preserved c = let call = c.feed-place in (search rules, seen_more _ c.loop-i.invariant.1 call.ensures.0 call.ensures.1)
+loop-i-preserved c = let call = c.feed-place in (search rules, seen_more _ c.loop-i.invariant.1 call.ensures.fits call.ensures.lines_after)
 
 pub slice_bounds-conclude-end : goal.slice_bounds-conclude-end
 slice_bounds-conclude-end c = sym c.loop-i.invariant.1.fits.room

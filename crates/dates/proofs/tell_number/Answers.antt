@@ -9,14 +9,14 @@ use borrow.Author.Rules.{rules}
 use Rattle.dates.proofs.tell_number.Goals as goal
 
 pub returns-then-out-lt-NUMBER_WORDS : goal.returns-then-out-lt-NUMBER_WORDS
-returns-then-out-lt-NUMBER_WORDS c = (no_room_law _ _ _ _ c.if-out-lt-NUMBER_WORDS.true, no_room_law _ _ _ _ c.if-out-lt-NUMBER_WORDS.true)
+returns-then-out-lt-NUMBER_WORDS c = record { value = no_room_law _ _ _ _ c.if-out-lt-NUMBER_WORDS.true; out_after = no_room_law _ _ _ _ c.if-out-lt-NUMBER_WORDS.true }
 
 pub returns-in-Refused : goal.returns-in-Refused
 returns-in-Refused c =
     let out = c.args.out.now in
     let wide = c.if-out-lt-NUMBER_WORDS.false in
     let e = sym c.day_number.ensures ∙ c.in-Refused.is in
-    (c.refusal_number.ensures ∙ sym (ap date_number e) ∙ with_room _ _ _ _ wide, sym (ap (λ (x : DateAnswer). number_out x out) e) ∙ with_room _ _ _ _ wide)
+    record { value = c.refusal_number.ensures ∙ sym (ap date_number e) ∙ with_room _ _ _ _ wide; out_after = sym (ap (λ (x : DateAnswer). number_out x out) e) ∙ with_room _ _ _ _ wide }
 
 pub returns-in-On : goal.returns-in-On
 unfolding put
@@ -24,4 +24,4 @@ returns-in-On c =
     let out = c.args.out.now in
     let wide = c.if-out-lt-NUMBER_WORDS.false in
     let e = sym c.day_number.ensures ∙ c.in-On.is in
-    (sym (ap date_number e) ∙ with_room _ _ _ _ wide, c.write_words.ensures ∙ sym (ap (λ (x : DateAnswer). number_out x out) e) ∙ with_room _ _ _ _ wide)
+    record { value = sym (ap date_number e) ∙ with_room _ _ _ _ wide; out_after = c.write_words.ensures ∙ sym (ap (λ (x : DateAnswer). number_out x out) e) ∙ with_room _ _ _ _ wide }

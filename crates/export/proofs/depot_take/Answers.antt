@@ -6,4 +6,6 @@ use borrow.Author.Rules.{rules}
 use Rattle.export.proofs.depot_take.Goals as goal
 
 pub returns : goal.returns
-returns c = by_call (took c.take.ensures) c.number_in.ensures
+returns c =
+    let told = by_call (took c.take.ensures) c.number_in.ensures in
+    record { value = told.0; book_after = told.1 }

@@ -34,7 +34,7 @@ small c = half_small _ 2 (record { at = λ i. omega (arith, c.shared_slice_known
 -- the distance, of the frame's serial
 wraps : (c : After-wrapping_sub_u16-behind) → (c.wrapping_sub_u16-behind.result + serial_in
     c.args.f.now) % half_limit ≡ c.args.expected
-wraps c = ap (λ (s : ℕ). (c.wrapping_sub_u16-behind.result + s) % half_limit) (sym c.half_at-serial.ensures) ∙ c.wrapping_sub_u16-behind.ensures
+wraps c = ap (λ (s : ℕ). (c.wrapping_sub_u16-behind.result + s) % half_limit) (sym c.half_at-serial.ensures) ∙ c.wrapping_sub_u16-behind.ensures.value
 
 pub returns-then-not-is_formed : goal.returns-then-not-is_formed
 unfolding frame_number

@@ -23,7 +23,7 @@ unfolding paper_who
 as_has p e = sym p.answer ∙ ap paper_who e
 
 pub returns-then-out-lt-WHO_WORDS : goal.returns-then-out-lt-WHO_WORDS
-returns-then-out-lt-WHO_WORDS c = (no_room_law _ _ _ _ c.if-out-lt-WHO_WORDS.true, no_room_law _ _ _ _ c.if-out-lt-WHO_WORDS.true)
+returns-then-out-lt-WHO_WORDS c = record { value = no_room_law _ _ _ _ c.if-out-lt-WHO_WORDS.true; out_after = no_room_law _ _ _ _ c.if-out-lt-WHO_WORDS.true }
 
 pub returns-in-Refused : goal.returns-in-Refused
 unfolding told_number told_out
@@ -31,7 +31,7 @@ returns-in-Refused c =
     let out = c.args.out.now in
     let wide = c.if-out-lt-WHO_WORDS.false in
     let e = as_refused c.who_has.ensures c.in-Refused.is in
-    (c.number_of.ensures ∙ sym (ap told_number e) ∙ with_room _ _ _ _ wide, sym (ap (λ (x : Told). told_out x out) e) ∙ with_room _ _ _ _ wide)
+    record { value = c.number_of.ensures ∙ sym (ap told_number e) ∙ with_room _ _ _ _ wide; out_after = sym (ap (λ (x : Told). told_out x out) e) ∙ with_room _ _ _ _ wide }
 
 pub returns-in-Has : goal.returns-in-Has
 unfolding put told_number told_out
@@ -39,4 +39,4 @@ returns-in-Has c =
     let out = c.args.out.now in
     let wide = c.if-out-lt-WHO_WORDS.false in
     let e = as_has c.who_has.ensures c.in-Has.is in
-    (sym (ap told_number e) ∙ with_room _ _ _ _ wide, c.write_words.ensures ∙ sym (ap (λ (x : Told). told_out x out) e) ∙ with_room _ _ _ _ wide)
+    record { value = sym (ap told_number e) ∙ with_room _ _ _ _ wide; out_after = c.write_words.ensures ∙ sym (ap (λ (x : Told). told_out x out) e) ∙ with_room _ _ _ _ wide }

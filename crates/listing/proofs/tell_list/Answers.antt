@@ -12,7 +12,7 @@ use Rattle.listing.proofs.tell_list.Goals as goal
 pub returns-then-out-lt-LIST_WORDS : goal.returns-then-out-lt-LIST_WORDS
 returns-then-out-lt-LIST_WORDS c =
     let short = c.if-out-lt-LIST_WORDS.true in
-    (no_room_law _ _ _ _ short, (no_room_law _ _ _ _ short, no_room_law _ _ _ _ short))
+    record { value = no_room_law _ _ _ _ short; book_after = no_room_law _ _ _ _ short; out_after = no_room_law _ _ _ _ short }
 
 pub returns-in_default : goal.returns-in_default
 unfolding number_in paper_listed
@@ -20,7 +20,7 @@ returns-in_default c =
     let wide = c.if-out-lt-LIST_WORDS.false in
     let p = c.list-answer.ensures in
     let e = c.in_default.is in
-    (list_number_law p plain.Answer.Done e ∙ with_room _ _ _ _ wide, (list_book_law p ∙ with_room _ _ _ _ wide, c.fill.ensures ∙ done_words p e _ ∙ with_room _ _ _ _ wide))
+    record { value = list_number_law p plain.Answer.Done e ∙ with_room _ _ _ _ wide; book_after = list_book_law p ∙ with_room _ _ _ _ wide; out_after = c.fill.ensures ∙ done_words p e _ ∙ with_room _ _ _ _ wide }
 
 pub returns : goal.returns
 unfolding number_in paper_listed
@@ -28,4 +28,4 @@ returns c =
     let wide = c.if-out-lt-LIST_WORDS.false in
     let p = c.list-answer.ensures in
     let e = c.in-Refused.is in
-    (c.number_of.ensures ∙ list_number_law p _ e ∙ with_room _ _ _ _ wide, (list_book_law p ∙ with_room _ _ _ _ wide, refused_words p _ e _ ∙ with_room _ _ _ _ wide))
+    record { value = c.number_of.ensures ∙ list_number_law p _ e ∙ with_room _ _ _ _ wide; book_after = list_book_law p ∙ with_room _ _ _ _ wide; out_after = refused_words p _ e _ ∙ with_room _ _ _ _ wide }

@@ -12,9 +12,7 @@ use Rattle.book.specs.Layout.{stable}
 use Rattle.register.specs.Calls.{gathered_from}
 use borrow.Author.Rules.{rules}
 use Rattle.moment.proofs.gather.Goals as goal
-
-abbrev turn : ℕ → ℕ → List ℕ → ℕ → List ℕ → List ℕ
-turn n d l s u = merged_at n d (stable l d s) 0 u
+use Rattle.moment.proofs.gather.Invariants.{turn}
 
 pub loop-s-init : goal.loop-s-init
 loop-s-init c = (search rules, refl, times_none _ _)

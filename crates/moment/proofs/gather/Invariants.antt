@@ -13,6 +13,9 @@ use Rattle.register.specs.Calls.{gathered_from}
 use borrow.Author.Rules.{rules}
 use Rattle.moment.proofs.gather.Given as goal
 
+abbrev pub turn : ℕ → ℕ → List ℕ → ℕ → List ℕ → List ℕ
+turn n d l s u = merged_at n d (stable l d s) 0 u
+
 abbrev pub invariant-loop-s : goal.invariant-loop-s
 invariant-loop-s l = (l.s ≤ l.p) × (length l.vector ≡ length l.initial.vector) × (l.vector ≡ times l.s (turn l.n l.d.0 l.book) l.initial.vector)
 

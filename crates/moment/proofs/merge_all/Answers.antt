@@ -14,10 +14,7 @@ use Rattle.named.proofs.NamedLaws.{below_at}
 use Rattle.register.specs.Calls.{merged_all}
 use borrow.Author.Rules.{rules}
 use Rattle.moment.proofs.merge_all.Goals as goal
-
--- one turn, with bearing k
-abbrev turn : ℕ → ℕ → ℕ → ℕ → List ℕ → List ℕ
-turn n c d k m = merged_at n n (vector_of (stored m d k)) (crew_at c) m
+use Rattle.moment.proofs.merge_all.Invariants.{turn}
 
 pub loop-i-init : goal.loop-i-init
 loop-i-init c = (search rules, refl, times_none _ _)

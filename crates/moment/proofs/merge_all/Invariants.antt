@@ -15,6 +15,10 @@ use Rattle.register.specs.Calls.{merged_all}
 use borrow.Author.Rules.{rules}
 use Rattle.moment.proofs.merge_all.Given as goal
 
+-- one turn, with bearing k
+abbrev pub turn : ℕ → ℕ → ℕ → ℕ → List ℕ → List ℕ
+turn n c d k m = merged_at n n (vector_of (stored m d k)) (crew_at c) m
+
 abbrev pub invariant-loop-i : goal.invariant-loop-i
 invariant-loop-i l =
     (l.i ≤ length l.bearings) × (length l.book ≡ length l.initial.book) × (l.book ≡ times l.i (λ j m. turn l.n.depots l.c.0 l.d.0 (get_or l.bearings j 0) m) l.initial.book)

@@ -155,7 +155,7 @@ merge-requires c =
     let h = small c.before.before.before.before.before.before.before.before.before.before.before.before.before in
     let full = settled_full c.before.before.before.before.before.before.before.before.before in
     let e = at.ensures in
-    let four : length c.tell-answer.result.vector ≡ 4 = ap (λ (v : List ℕ). length v) c.tell-answer.ensures.1.0 in
+    let four : length c.tell-answer.result.vector ≡ 4 = ap (λ (v : List ℕ). length v) c.tell-answer.ensures.vector_value.0 in
     (omega (arith, full, h.3, h.4, e), omega (arith, h.4, four))
 
 pub returns : goal.returns
@@ -168,9 +168,9 @@ returns c =
     let home = home_done book c.args.c.0 c.args.k.0 counts depot c.shelf_for-s.ensures c.settle_home.ensures in
     let found = record_read book c.args.c.0 c.args.k.0 counts home depot c.stored_at-at.ensures in
     let said = c.tell-answer.ensures in
-    let answer = told_done book c.args.c.0 c.args.k.0 counts home (λ (n : ℕ) (r : List ℕ). reads (told n r)) found said.0 in
-    let vector = told_done book c.args.c.0 c.args.k.0 counts home (λ (n : ℕ) (r : List ℕ). cut n (vector_of r)) found said.1.0 in
-    let depots = told_done book c.args.c.0 c.args.k.0 counts home (λ (n : ℕ) (r : List ℕ). n) found said.1.1 in
+    let answer = told_done book c.args.c.0 c.args.k.0 counts home (λ (n : ℕ) (r : List ℕ). reads (told n r)) found said.result_value in
+    let vector = told_done book c.args.c.0 c.args.k.0 counts home (λ (n : ℕ) (r : List ℕ). cut n (vector_of r)) found said.vector_value.0 in
+    let depots = told_done book c.args.c.0 c.args.k.0 counts home (λ (n : ℕ) (r : List ℕ). n) found said.vector_value.1 in
     record {
       answer = answer ∙ by_done done;
       holds = told_holds _ _ w.within.depots answer vector depots;

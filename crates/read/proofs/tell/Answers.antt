@@ -37,7 +37,7 @@ unfolding told paper_read paper_found
 returns-then-is_zero c =
     let vector = vector_said c.before.before.before.before in
     let n = c.args.n in
-    (ap (λ (v : List ℕ). reads (read_unwritten (take n v))) vector ∙ ap reads (sym (pick_true _ _ (sym (said c.before.before) ∙ c.if-is_zero.true))), (vector, refl))
+    record { result_value = ap (λ (v : List ℕ). reads (read_unwritten (take n v))) vector ∙ ap reads (sym (pick_true _ _ (sym (said c.before.before) ∙ c.if-is_zero.true))); vector_value = (vector, refl) }
 
 pub returns : goal.returns
 unfolding told paper_read paper_found
@@ -45,4 +45,4 @@ returns c =
     let vector = vector_said c.before.before.before.before.before.before.before in
     let args = c.args in
     let payload = payload_of args.version.now in
-    (ap (λ (v : List ℕ). reads (read_value payload (take args.n v))) vector ∙ ap reads (sym (pick_false _ _ (sym (said c.before.before.before.before.before) ∙ c.if-is_zero.false))), (vector, refl))
+    record { result_value = ap (λ (v : List ℕ). reads (read_value payload (take args.n v))) vector ∙ ap reads (sym (pick_false _ _ (sym (said c.before.before.before.before.before) ∙ c.if-is_zero.false))); vector_value = (vector, refl) }

@@ -21,4 +21,4 @@ pub returns : goal.returns
 returns c =
     let o = c.args.buffer.now in
     let told = c.recover-told.ensures in
-    (told, c.bring_forward.ensures ∙ ap (put o 0) (behind_counted o c.args.filled told c.requires))
+    record { recovery = told; buffer_after = c.bring_forward.ensures ∙ ap (put o 0) (behind_counted o c.args.filled told c.requires) }

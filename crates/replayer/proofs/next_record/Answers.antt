@@ -57,5 +57,5 @@ returns c =
     let asked = asks f k extent.0 extent.1 _ _ (omega (arith, extent.2, c.requires.1)) c.read_words.ensures in
     let size = size_is f k extent.0 extent.1 in
     a_record (names_kind (get_or f 0 0) c.word_of_byte.ensures c.kind_of-named.ensures c.in-A.is)
-    (subst (λ (n : ℕ). n ≤ length f) size c.if-bytes-size.false) (c.replayed-end.ensures.0 ∙ ap (number_at l) asked) size
-    (c.replayed-end.ensures.1 ∙ ap (book_after l) asked)
+    (subst (λ (n : ℕ). n ≤ length f) size c.if-bytes-size.false) (c.replayed-end.ensures.value ∙ ap (number_at l) asked) size
+    (c.replayed-end.ensures.book_after ∙ ap (book_after l) asked)

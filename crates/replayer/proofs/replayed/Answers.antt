@@ -9,5 +9,6 @@ use Rattle.replayer.proofs.replayed.Goals as goal
 pub returns : goal.returns
 returns c =
     let request = c.request_by-request in
-    replays c.perform-reply.ensures (ap (asked request.result) c.beside_by.ensures ∙ request.ensures)
-    c.number_in.ensures
+    let told = replays c.perform-reply.ensures (ap (asked request.result) c.beside_by.ensures ∙ request.ensures)
+    c.number_in.ensures in
+    record { value = told.0; book_after = told.1 }

@@ -9,14 +9,14 @@ use Rattle.script.proofs.is_answered.Goals as goal
 
 pub slice_bounds-said-end : goal.slice_bounds-said-end
 slice_bounds-said-end c =
-    answer_room_law _ _ c.answer_line-n.ensures.1 c.requires
+    answer_room_law _ _ c.answer_line-n.ensures.wrote c.requires
 
 pub slice_bounds-said-end-2 : goal.slice_bounds-said-end-2
-slice_bounds-said-end-2 c = sym (length-take-le _ _ (answer_room_law _ _ c.answer_line-n.ensures.1 c.requires))
+slice_bounds-said-end-2 c = sym (length-take-le _ _ (answer_room_law _ _ c.answer_line-n.ensures.wrote c.requires))
 
 pub returns : goal.returns
 returns c =
     let told = c.same.ensures in
     let call = c.answer_line-n.ensures in
-    let said = wrote_start call.1 (answer_room_law _ _ c.answer_line-n.ensures.1 c.requires) in
-    (call.0, (λ e. sym (told.0 e) ∙ said, λ e. told.1 (said ∙ sym e)))
+    let said = wrote_start call.wrote (answer_room_law _ _ c.answer_line-n.ensures.wrote c.requires) in
+    record { book_after = call.book_after; exactly = (λ e. sym (told.0 e) ∙ said, λ e. told.1 (said ∙ sym e)) }

@@ -25,11 +25,11 @@ loop-i-preserved c =
     let inv = c.loop-i.invariant in
     let all =
     ⊎_elim
-    (λ w. exactly_taken call.ensures.1 w.0.taken w.1)
-    (λ w. exactly_left call.ensures.1 w.0.left w.1)
+    (λ w. exactly_taken call.ensures.exactly w.0.taken w.1)
+    (λ w. exactly_left call.ensures.exactly w.0.left w.1)
     c.if-runs.branch
     in
-    (omega (arith, c.loop-i-test.true), call.auto.book ∙ inv.1, call.auto.out ∙ inv.2, rerun_more inv.3 call.ensures.0 all)
+    (omega (arith, c.loop-i-test.true), call.auto.book ∙ inv.1, call.auto.out ∙ inv.2, rerun_more inv.3 call.ensures.book_after all)
 
 pub shape_of-book : goal.shape_of-book
 shape_of-book c = c.loop-i.invariant.1
@@ -38,4 +38,4 @@ pub shape_of-out : goal.shape_of-out
 shape_of-out c = c.loop-i.invariant.2
 
 pub returns : goal.returns
-returns c = let done = rerun_done c.loop-i.invariant.0 c.loop-i-test.false c.loop-i.invariant.3 in (done.book, done.runs)
+returns c = let done = rerun_done c.loop-i.invariant.0 c.loop-i-test.false c.loop-i.invariant.3 in record { book_after = done.book; exactly = done.runs }

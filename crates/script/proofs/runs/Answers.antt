@@ -41,8 +41,8 @@ loop-at-preserved-then-is_answered c =
     c.line_end-feed.ensures
     c.line_after-end.ensures
     c.line_after-stop.ensures
-    call.ensures.0
-    (exactly_taken call.ensures.1 c.if-is_answered.true refl)
+    call.ensures.book_after
+    (exactly_taken call.ensures.exactly c.if-is_answered.true refl)
     in
     (call.auto.book ∙ loop.invariant.0, call.auto.out ∙ loop.invariant.1, far)
 
@@ -59,8 +59,8 @@ loop-at-preserved c =
     c.line_end-feed.ensures
     c.line_after-end.ensures
     c.line_after-stop.ensures
-    call.ensures.0
-    (exactly_left call.ensures.1 c.if-is_answered.false refl)
+    call.ensures.book_after
+    (exactly_left call.ensures.exactly c.if-is_answered.false refl)
     in
     (call.auto.book ∙ loop.invariant.0, call.auto.out ∙ loop.invariant.1, far)
 
@@ -71,7 +71,9 @@ pub shape_of-out : goal.shape_of-out
 shape_of-out c = c.loop-at.invariant.1
 
 pub returns : goal.returns
-returns c = far_done c.loop-at.invariant.2 c.loop-at-test.false
+returns c =
+    let told = far_done c.loop-at.invariant.2 c.loop-at-test.false in
+    record { book_after = told.0; exactly = told.1 }
 
 pub slice_bounds-is_answered-count : goal.slice_bounds-is_answered-count
 slice_bounds-is_answered-count c = (placed c.before.before.before).line

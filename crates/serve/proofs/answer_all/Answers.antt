@@ -33,7 +33,7 @@ loop-more-preserved c =
       call.auto.input ∙ inv.2,
       call.auto.out ∙ inv.3,
       call.auto.log ∙ inv.4,
-      served_more _ inv.5 call.ensures.0 call.ensures.1,
+      served_more _ inv.5 call.ensures.book_after call.ensures.holder,
     )
 
 pub shape_of-book-else-pieces-gt0 : goal.shape_of-book-else-pieces-gt0

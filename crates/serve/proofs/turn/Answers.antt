@@ -6,7 +6,7 @@ use borrow.Author.Rules.{rules}
 use Rattle.serve.proofs.turn.Goals as goal
 
 pub slice_bounds-keep_records-end-2 : goal.slice_bounds-keep_records-end-2
-slice_bounds-keep_records-end-2 c = sym (length-take-le _ _ c.keep_piece-at.ensures.1.1.1.1.1)
+slice_bounds-keep_records-end-2 c = sym (length-take-le _ _ c.keep_piece-at.ensures.out_in_bounds.1)
 
 pub slice_bounds-write_answers-end-2 : goal.slice_bounds-write_answers-end-2
-slice_bounds-write_answers-end-2 c = sym (length-take-le _ _ c.keep_piece-at.ensures.1.1.1.1.0)
+slice_bounds-write_answers-end-2 c = sym (length-take-le _ _ c.keep_piece-at.ensures.out_in_bounds.0)

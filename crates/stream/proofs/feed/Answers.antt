@@ -32,16 +32,16 @@ loop-i-preserved c =
     let inv = c.loop-i.invariant in (
       call.auto.book ∙ inv.0,
       call.auto.line ∙ inv.1,
-      fed_step inv.2 more call.ensures.0 call.ensures.1.0,
-      given_step inv.2 more answers_most inv.3 call.ensures.1.1.0,
-      given_step inv.2 more records_most inv.4 call.ensures.1.1.1,
+      fed_step inv.2 more call.ensures.book_after call.ensures.holder,
+      given_step inv.2 more answers_most inv.3 call.ensures.wrote,
+      given_step inv.2 more records_most inv.4 call.ensures.wrote_2,
     )
 
 pub returns : goal.returns
 returns c =
     let inv = c.loop-i.invariant in
     let all = c.loop-i-test.false in
-    (fed_words inv.2 all, ((inv.2.holder, fed_line inv.2 all), (given_all inv.3 all, given_all inv.4 all)))
+    record { book_after = fed_words inv.2 all; holder = (inv.2.holder, fed_line inv.2 all); wrote = given_all inv.3 all; wrote_2 = given_all inv.4 all }
 
 pub shape_of-book : goal.shape_of-book
 shape_of-book c = c.loop-i.invariant.0

@@ -10,12 +10,12 @@ use Rattle.telling.proofs.tell_write.Goals as goal
 pub returns-then-out-lt-WRITE_WORDS : goal.returns-then-out-lt-WRITE_WORDS
 returns-then-out-lt-WRITE_WORDS c =
     let short = c.if-out-lt-WRITE_WORDS.true in
-    (no_room_law _ _ _ _ short, (no_room_law _ _ _ _ short, no_room_law _ _ _ _ short))
+    record { value = no_room_law _ _ _ _ short; book_after = no_room_law _ _ _ _ short; out_after = no_room_law _ _ _ _ short }
 
 pub returns : goal.returns
 returns c =
     let wide = c.if-out-lt-WRITE_WORDS.false in
     let promise = did_write c.write.ensures in
-    let said = by_call promise c.tell_written.ensures.0 in
-    let told = told_by _ promise c.tell_written.ensures.1 in
-    (said.0 ∙ with_room _ _ _ _ wide, (said.1 ∙ with_room _ _ _ _ wide, told ∙ with_room _ _ _ _ wide))
+    let said = by_call promise c.tell_written.ensures.value in
+    let told = told_by _ promise c.tell_written.ensures.out_after in
+    record { value = said.0 ∙ with_room _ _ _ _ wide; book_after = said.1 ∙ with_room _ _ _ _ wide; out_after = told ∙ with_room _ _ _ _ wide }

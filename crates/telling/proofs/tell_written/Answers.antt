@@ -11,12 +11,18 @@ use Rattle.telling.proofs.tell_written.Goals as goal
 
 pub returns-in-Current : goal.returns-in-Current
 unfolding number_in words_of paper_write
-returns-in-Current c = told_as _ (sym (ap paper_write c.in-Current.is)) refl refl c.fill.ensures
+returns-in-Current c =
+    let told = told_as _ (sym (ap paper_write c.in-Current.is)) refl refl c.fill.ensures in
+    record { value = told.0; out_after = told.1 }
 
 pub returns-in-Superseded : goal.returns-in-Superseded
 unfolding number_in words_of paper_write
-returns-in-Superseded c = told_as _ (sym (ap paper_write c.in-Superseded.is)) refl refl c.fill-in-Superseded.ensures
+returns-in-Superseded c =
+    let told = told_as _ (sym (ap paper_write c.in-Superseded.is)) refl refl c.fill-in-Superseded.ensures in
+    record { value = told.0; out_after = told.1 }
 
 pub returns-in-Refused : goal.returns-in-Refused
 unfolding number_in words_of paper_write
-returns-in-Refused c = told_as _ (sym (ap paper_write c.in-Refused.is)) c.number_of.ensures refl (filled_none _)
+returns-in-Refused c =
+    let told = told_as _ (sym (ap paper_write c.in-Refused.is)) c.number_of.ensures refl (filled_none _) in
+    record { value = told.0; out_after = told.1 }

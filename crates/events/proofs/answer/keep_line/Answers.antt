@@ -10,14 +10,14 @@ use Rattle.events.proofs.answer.keep_line.Goals as goal
 
 pub bounds-out-last : goal.bounds-out-last
 bounds-out-last c =
-    let w = c.say_line-end.ensures.1.0 in
+    let w = c.say_line-end.ensures.wrote in
     let h = reading_length c.args.book.now (reading c.args.line.now) in
     let k = wrote_length w in
     omega (arith, w.after, c.requires.0)
 
 pub overflow_add-result : goal.overflow_add-result
 overflow_add-result c =
-    let w = c.say_line-end.ensures.1.0 in
+    let w = c.say_line-end.ensures.wrote in
     let h = reading_length c.args.book.now (reading c.args.line.now) in
     let k = wrote_length w in
     omega (arith, w.after, c.requires.0)
@@ -26,4 +26,4 @@ pub returns : goal.returns
 unfolding book_after_line answer_to record_to done_by
 returns c =
     let said = c.say_line-end.ensures in
-    (said.0, (wrote_then said.1.0 (wrote_byte _ _ 10), said.1.1))
+    record { book_after = said.book_after; wrote = wrote_then said.wrote (wrote_byte _ _ 10); wrote_2 = said.wrote_2 }

@@ -45,10 +45,4 @@ unfolding event_book event_says request_of
 returns c =
     let l = c.args.book.now in
     let request = ap₂ asked c.request_of-request.ensures c.beside_in.ensures in
-    let done = c.record_at-recorded.ensures in (
-      done.performed.book ∙ ap (book_after l) request,
-      (
-        wrote_same (ap printed (done.performed.answer ∙ ap (reply_to l) request)) c.say-end.ensures,
-        asked_wrote l c.args.event c.args.numbers.now request done.buffer done.size,
-      ),
-    )
+    let done = c.record_at-recorded.ensures in record { book_after = done.performed.book ∙ ap (book_after l) request; wrote = wrote_same (ap printed (done.performed.answer ∙ ap (reply_to l) request)) c.say-end.ensures; wrote_2 = asked_wrote l c.args.event c.args.numbers.now request done.buffer done.size }

@@ -31,13 +31,12 @@ slice_bounds-run_event-end c = told_part _ c.read_line-told.ensures
 pub returns-in-BadLine : goal.returns-in-BadLine
 unfolding reading_book reading_says reading_done journal
 returns-in-BadLine c =
-    kept_reading _ (told_bad _ c.read_line-told.ensures c.in-BadLine.is)
-    (refl, (c.answer_number.ensures, wrote_nothing _ _))
+    let told = kept_reading _ (told_bad _ c.read_line-told.ensures c.in-BadLine.is) (refl, (c.answer_number.ensures, wrote_nothing _ _)) in
+    record { book_after = told.0; wrote = told.1.0; wrote_2 = told.1.1 }
 
 pub returns-in-Names : goal.returns-in-Names
 unfolding reading_book reading_says reading_done
 returns-in-Names c =
-    kept_reading _
-    (says_read _ _ _
-    (told_event _ c.read_line-told.ensures _
-    c.in-Names.is)) c.run_event.ensures
+    let ran = c.run_event.ensures in
+    let told = kept_reading _ (says_read _ _ _ (told_event _ c.read_line-told.ensures _ c.in-Names.is)) (ran.book_after, (ran.wrote, ran.wrote_2)) in
+    record { book_after = told.0; wrote = told.1.0; wrote_2 = told.1.1 }

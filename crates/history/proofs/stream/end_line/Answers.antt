@@ -10,7 +10,7 @@ use Rattle.history.proofs.StreamLaws.{ended_many, ended_few}
 use Rattle.history.proofs.stream.end_line.Goals as goal
 
 pub returns-then-lines-ge-MOST_ENTRIES : goal.returns-then-lines-ge-MOST_ENTRIES
-returns-then-lines-ge-MOST_ENTRIES c = let done = ended_many _ _ _ _ c.requires c.if-lines-ge-MOST_ENTRIES.true in (done.0, (refl, done.1))
+returns-then-lines-ge-MOST_ENTRIES c = let done = ended_many _ _ _ _ c.requires c.if-lines-ge-MOST_ENTRIES.true in record { fits = done.0; kept_value = (refl, done.1) }
 
 pub slice_bounds-read_line-end : goal.slice_bounds-read_line-end
 slice_bounds-read_line-end c = sym (length-take-le _ _ (omega (arith, c.requires.bytes, c.requires.kept_few)))
@@ -24,4 +24,4 @@ pub returns : goal.returns
 returns c =
     let done = ended_few _ _ _ _ c.requires
     c.if-lines-ge-MOST_ENTRIES.false _ c.read_line-entry.ensures
-    c.put_words.ensures in (done.0, (refl, done.1))
+    c.put_words.ensures in record { fits = done.0; kept_value = (refl, done.1) }

@@ -17,11 +17,11 @@ feed_byte-place-requires c = c.loop-i.invariant.1
 pub loop-i-preserved : goal.loop-i-preserved
 loop-i-preserved c = (
   search rules,
-  c.feed_byte-place.ensures.0,
+  c.feed_byte-place.ensures.fits,
   through_next _ _ _
-      c.loop-i-test.true c.feed_byte-place.ensures.1
+      c.loop-i-test.true c.feed_byte-place.ensures.lines_after
       ∙ c.loop-i.invariant.2,
 )
 
 pub returns : goal.returns
-returns c = (c.loop-i.invariant.1, sym (through_over _ _ _ c.loop-i-test.false) ∙ c.loop-i.invariant.2)
+returns c = record { fits = c.loop-i.invariant.1; lines_after = sym (through_over _ _ _ c.loop-i-test.false) ∙ c.loop-i.invariant.2 }

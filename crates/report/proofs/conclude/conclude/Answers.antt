@@ -7,5 +7,5 @@ use Rattle.report.proofs.conclude.conclude.Goals as goal
 pub returns : goal.returns
 returns c =
     concluded c.requires.0
-    c.finish-total.ensures.1 c.report-said.ensures
+    c.finish-total.ensures.result_after c.report-said.ensures
     c.say.ensures c.requires.1
