@@ -1,6 +1,9 @@
 // The desk on an input of ten pieces: its lines of nine bytes are cut by a read at every place.
-use serve::serve;
+#![tactic(auto)]
 
-fn main() {
-    serve();
+use serve::serve;
+use std::io;
+
+fn main(rt: HostRuntime) -> io::Result<()> {
+    serve(&rt, &rt.stderr())
 }

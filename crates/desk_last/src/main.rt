@@ -1,6 +1,9 @@
 // The desk on an input whose last line has no line feed.
-use serve::serve;
+#![tactic(auto)]
 
-fn main() {
-    serve();
+use serve::serve;
+use std::io;
+
+fn main(rt: HostRuntime) -> io::Result<()> {
+    serve(&rt, &rt.stderr())
 }
