@@ -6,6 +6,7 @@ mod compare;
 mod eras;
 
 use crate::compare::{date_compared, day_compared, next_compared};
+use std::io;
 
 // How many answers were dates, how many refusals of each number, and how many wrong.
 #[derive(Clone, Copy)]
@@ -99,24 +100,24 @@ fn many_anchors() -> Tally {
     t
 }
 
-fn line(what: &[u8], n: u64) {
-    io::write_all(1, what);
-    io::print_decimal(1, n);
+fn line(rt: &impl Print, what: &[u8], n: u64) -> io::Result<()> {
+    rt.write_all(what)?;
+    print!(rt; "{n}")
 }
 
-fn written(what: &[u8], t: Tally) {
-    io::write_all(1, what);
-    line(b": dates ", t.dates);
-    line(b", bad date ", t.bad_date);
-    line(b", bad step ", t.bad_step);
-    line(b", bad count ", t.bad_count);
-    line(b", too late ", t.too_late);
-    line(b", wrong ", t.wrong);
-    io::write_all(1, b"\n");
+fn written(rt: &impl Print, what: &[u8], t: Tally) -> io::Result<()> {
+    rt.write_all(what)?;
+    line(rt, b": dates ", t.dates)?;
+    line(rt, b", bad date ", t.bad_date)?;
+    line(rt, b", bad step ", t.bad_step)?;
+    line(rt, b", bad count ", t.bad_count)?;
+    line(rt, b", too late ", t.too_late)?;
+    line(rt, b", wrong ", t.wrong)?;
+    rt.write_all(b"\n")
 }
 
-fn main() {
-    written(b"days", all_days());
-    written(b"dates", all_dates());
-    written(b"next dates", many_anchors());
+fn main(rt: HostRuntime) -> io::Result<()> {
+    written(&rt, b"days", all_days())?;
+    written(&rt, b"dates", all_dates())?;
+    written(&rt, b"next dates", many_anchors())
 }

@@ -1,13 +1,17 @@
 // The auditor as a program: the lines of a history from standard input, one answer line to standard output.
 #![tactic(auto)]
 
-ghost use Rattle.std.specs.Prelude.{◌≡◌, take};
+ghost use Rattle.std.specs.Prelude.{◌≡◌, ℕ, take, IfOk, OnErr};
 ghost use Rattle.history.specs.Stream.{Fits, Seen, state, through};
 
 use history::stream::{HISTORY_WORDS, KEPT_BYTES, Place, feed};
-use libc::{STDIN_FILENO, STDOUT_FILENO};
 use report::conclude::conclude;
 use report::say::ANSWER_ROOM;
+use std::io;
+use std::io::Read;
+
+// How many bytes are asked of the input at a time.
+const PIECE_BYTES: usize = 4096;
 
 // What a piece of the input leaves: how many bytes it has, how many bytes of the line so far are kept, and how many lines have ended.
 #[derive(Clone, Copy)]
@@ -17,58 +21,65 @@ struct Left {
     lines: usize,
 }
 
-// What has arrived is read. No bytes are the end of the input.
-fn read_piece(
+// What has arrived is read. No bytes are the end of the input. Where it cannot be read, what was read before stays as it was.
+fn read_piece<R: Read>(
+    from: &mut R,
     words: &mut [u32],
     line: &mut [u8],
     kept: usize,
     lines: usize,
     input: &mut [u8],
-) -> Left
+) -> io::Result<Left>
     requires { Fits words.old line.old kept lines }
-    ensures fits { Fits words.new line.new result.kept result.lines }
-    ensures lines_after { state words.new line.new result.kept result.lines ≡ through (state words.old line.old kept lines) (take result.count input.new) }
+    ensures fits { IfOk result (λ left. Fits words.new line.new left.kept left.lines) }
+    ensures lines_after { IfOk result (λ left. state words.new line.new left.kept left.lines ≡ through (state words.old line.old kept lines) (take left.count input.new)) }
+    ensures words_stay { OnErr result (words.new ≡ words.old) }
+    ensures line_stays { OnErr result (line.new ≡ line.old) }
 {
-    let got = libc::read(STDIN_FILENO, input);
-    let n = io::count(got, input);
+    let n = from.read(input)?;
     let place = feed(words, line, kept, lines, &input[..n]);
-    Left {
+    Ok(Left {
         count: n,
         kept: place.kept,
         lines: place.lines,
-    }
+    })
 }
 
-// All that arrives. The pieces are counted down from a number that no run uses up.
-fn read_all(words: &mut [u32], line: &mut [u8], input: &mut [u8]) -> Place
+// All that arrives. Where it cannot be read to its end, what was read stands in the buffers.
+fn read_all<R: Read>(
+    from: &mut R,
+    words: &mut [u32],
+    line: &mut [u8],
+    input: &mut [u8],
+) -> io::Result<Place>
     requires { Seen words.old line.old 0 0 }
-    ensures { Seen words.new line.new result.kept result.lines }
+    ensures seen { IfOk result (λ place. Seen words.new line.new place.kept place.lines) }
+    ensures seen_so_far { OnErr result ((kept : ℕ) × (lines : ℕ) × Seen words.new line.new kept lines) }
 {
-    let mut pieces = u64::MAX;
     let mut kept = 0;
     let mut lines = 0;
-    let mut more = true;
-    while more && pieces > 0 {
-        let left = read_piece(words, line, kept, lines, input);
+    'pieces: for _ in 0..u64::MAX {
+        let left = read_piece(from, words, line, kept, lines, input)?;
         kept = left.kept;
         lines = left.lines;
-        more = left.count > 0;
-        pieces -= 1;
+        if left.count == 0 {
+            break 'pieces;
+        }
     }
-    Place {
+    Ok(Place {
         kept: kept,
         lines: lines,
-    }
+    })
 }
 
-fn main() {
+fn main(rt: HostRuntime) -> io::Result<()> {
     let mut words = [0u32; HISTORY_WORDS];
     let mut line = [0u8; KEPT_BYTES];
-    let mut input = io::buffer();
+    let mut input = [0u8; PIECE_BYTES];
     let mut out = [0u8; ANSWER_ROOM];
-    let place = read_all(&mut words, &mut line, &mut input);
+    let place = read_all(&mut rt.stdin(), &mut words, &mut line, &mut input)?;
     let kept = place.kept;
     let lines = place.lines;
     let end = conclude(&mut words, &line, kept, lines, &mut out);
-    io::write_all(STDOUT_FILENO, &out[..end]);
+    rt.write_all(&out[..end])
 }

@@ -11,12 +11,12 @@ use crate::lists::case_p;
 use book::layout::{BOOK_WORDS, clock_at, crew_at, stable_at};
 use book::numbers::{Crew, Depot, Shelf};
 use book::parts::set_clock;
-use libc::STDOUT_FILENO;
 use paper::answer::Answer;
 use paper::number::number_of;
 use rehome::move_crew;
 use reply::ANSWER_ROOM;
 use script::{is_word, repeated, runs};
+use std::io;
 use who::{WhoAnswer, who_has};
 use whole::is_fit;
 
@@ -379,62 +379,62 @@ fn wrong_answers(book: &mut [u32], out: &mut [u8]) -> bool
 }
 
 // Says how a case went.
-fn tell(letter: u8, good: bool) {
+fn tell(rt: &impl Print, letter: u8, good: bool) -> io::Result<()> {
     let name = [b'(', letter, b')', b' '];
-    io::write_all(STDOUT_FILENO, &name);
+    rt.write_all(&name)?;
     if good {
-        io::write_all(STDOUT_FILENO, b"as written\n");
+        rt.write_all(b"as written\n")
     } else {
-        io::write_all(STDOUT_FILENO, b"DIFFERS\n");
+        rt.write_all(b"DIFFERS\n")
     }
 }
 
 // Those that go on from the listing.
-fn from_listing(book: &mut [u32], out: &mut [u8])
+fn from_listing(rt: &impl Print, book: &mut [u32], out: &mut [u8]) -> io::Result<()>
     requires { answer_room ≤ length out.old }
 {
-    tell(b'a', case_a(book, out));
-    tell(b'b', case_b(book, out));
-    tell(b'c', case_c(book, out));
-    tell(b'd', case_d(book, out));
-    tell(b'e', case_e(book, out));
+    tell(rt, b'a', case_a(book, out))?;
+    tell(rt, b'b', case_b(book, out))?;
+    tell(rt, b'c', case_c(book, out))?;
+    tell(rt, b'd', case_d(book, out))?;
+    tell(rt, b'e', case_e(book, out))
 }
 
 // Those that start afresh.
-fn from_setup(book: &mut [u32], out: &mut [u8])
+fn from_setup(rt: &impl Print, book: &mut [u32], out: &mut [u8]) -> io::Result<()>
     requires { (length book.old ≡ book_words) × (answer_room ≤ length out.old) }
 {
-    tell(b'f', case_f(book, out));
-    tell(b'g', case_g(book, out));
-    tell(b'h', case_h(book, out));
-    tell(b'i', case_i(book, out));
+    tell(rt, b'f', case_f(book, out))?;
+    tell(rt, b'g', case_g(book, out))?;
+    tell(rt, b'h', case_h(book, out))?;
+    tell(rt, b'i', case_i(book, out))
 }
 
 // Those of later requests.
-fn from_requests(book: &mut [u32], out: &mut [u8])
+fn from_requests(rt: &impl Print, book: &mut [u32], out: &mut [u8]) -> io::Result<()>
     requires { answer_room ≤ length out.old }
 {
-    tell(b'j', case_j(book, out));
-    tell(b'k', case_k(book, out));
-    tell(b'l', case_l(book, out));
-    tell(b'm', case_m(book, out));
+    tell(rt, b'j', case_j(book, out))?;
+    tell(rt, b'k', case_k(book, out))?;
+    tell(rt, b'l', case_l(book, out))?;
+    tell(rt, b'm', case_m(book, out))
 }
 
 // Those of calls that are no lines.
-fn from_calls(book: &mut [u32], out: &mut [u8])
+fn from_calls(rt: &impl Print, book: &mut [u32], out: &mut [u8]) -> io::Result<()>
     requires { answer_room ≤ length out.old }
 {
-    tell(b'n', case_n(book, out));
-    tell(b'o', case_o(book, out));
+    tell(rt, b'n', case_n(book, out))?;
+    tell(rt, b'o', case_o(book, out))
 }
 
-fn main() {
+fn main(rt: HostRuntime) -> io::Result<()> {
     let mut book = [0u32; BOOK_WORDS];
     let mut out = [0u8; ANSWER_ROOM];
-    from_listing(&mut book, &mut out);
-    from_setup(&mut book, &mut out);
-    from_requests(&mut book, &mut out);
-    from_calls(&mut book, &mut out);
-    tell(b'p', case_p(&mut book, &mut out));
-    tell(b'?', wrong_answers(&mut book, &mut out));
+    from_listing(&rt, &mut book, &mut out)?;
+    from_setup(&rt, &mut book, &mut out)?;
+    from_requests(&rt, &mut book, &mut out)?;
+    from_calls(&rt, &mut book, &mut out)?;
+    tell(&rt, b'p', case_p(&mut book, &mut out))?;
+    tell(&rt, b'?', wrong_answers(&mut book, &mut out))
 }

@@ -3,8 +3,10 @@
 #![tactic(auto)]
 
 use keeper::{keep, keep_from_image};
+use restore::arguments::arg_count;
 use restore::tell::tell;
 use serve::serve;
+use std::io;
 
 // As many arguments, the program's own name among them, as a desk without a journal has, one with a journal, and one with an image too.
 const PLAIN: usize = 1;
@@ -13,19 +15,18 @@ const KEPT: usize = 2;
 
 const FROM_IMAGE: usize = 3;
 
-fn main() {
-    let words = os::arg_count();
+fn main(rt: HostRuntime) -> io::Result<()> {
+    let notes = rt.stderr();
+    let words = arg_count(&rt, FROM_IMAGE + 1);
     if words <= PLAIN {
-        serve();
-        return;
+        return serve(&rt, &notes);
     }
     if words == KEPT {
-        keep();
-        return;
+        return keep(&rt, &notes);
     }
     if words == FROM_IMAGE {
-        keep_from_image();
-        return;
+        return keep_from_image(&rt, &notes);
     }
-    tell(b"usage: desk [JOURNAL [IMAGE]]\n");
+    tell(&notes, b"usage: desk [JOURNAL [IMAGE]]\n");
+    Ok(())
 }

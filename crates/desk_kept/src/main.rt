@@ -2,7 +2,8 @@
 #![tactic(auto)]
 
 use keeper::keep;
+use std::io;
 
-fn main() {
-    keep();
+fn main(rt: HostRuntime) -> io::Result<()> {
+    keep(&rt, &rt.stderr())
 }

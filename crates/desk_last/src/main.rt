@@ -2,7 +2,8 @@
 #![tactic(auto)]
 
 use serve::serve;
+use std::io;
 
-fn main() {
-    serve();
+fn main(rt: HostRuntime) -> io::Result<()> {
+    serve(&rt, &rt.stderr())
 }

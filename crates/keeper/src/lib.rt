@@ -7,130 +7,161 @@
 ghost use Rattle.stream.specs.Stream.{Began};
 
 use book::layout::BOOK_WORDS;
-use libc::{ENOENT, SEEK_SET};
-use restore::files::{place, sync_folder};
+use restore::files::{PATH_ROOM, create, open_update, place, sync_folder};
 use restore::image_file::load_named;
 use restore::journal_file::{Restored, is_sound, recover_file};
-use restore::tell::{tell, tell_failure, tell_file, tell_number};
+use restore::tell::{tell, tell_failure, tell_file, tell_number, tell_unnamed};
 use serve::serve_on;
-
-// What is answered in place of a descriptor where there is none.
-const NONE: i32 = -1;
+use std::env::Env;
+use std::fs::{Files, OpenFile};
+use std::io;
+use std::io::{Input, IsTerminal, Seek, SeekFrom};
 
 // A new journal, open for reading and writing. Its name is on the disk before the first record is.
-fn make_journal(path: &[u8]) -> i32 {
-    let made = os::create(path);
-    if made < 0 {
-        tell_failure(path);
-        return NONE;
-    }
-    libc::close(made);
-    if !sync_folder(path) {
-        tell_failure(path);
-        return NONE;
-    }
-    let journal = os::open_update(path);
-    if journal < 0 {
-        tell_failure(path);
-    }
-    journal
+fn make_journal<R: Files>(files: &R, path: &[u8]) -> io::Result<R::File> {
+    let made = create(files, path)?;
+    drop(made);
+    sync_folder(files, path)?;
+    open_update(files, path)
 }
 
-// The journal at a path, open for reading and writing; it is made where there is none. Where it can't be had, a line says why.
-fn open_journal(path: &[u8]) -> i32 {
-    let journal = os::open_update(path);
-    if journal >= 0 {
-        return journal;
+// The journal at a path, open for reading and writing; it is made where there is none.
+fn open_journal<R: Files>(files: &R, path: &[u8]) -> io::Result<R::File> {
+    match open_update(files, path) {
+        Ok(journal) => Ok(journal),
+        Err(error) => {
+            if error.kind() == io::ErrorKind::NotFound {
+                return make_journal(files, path);
+            }
+            Err(error)
+        }
     }
-    if os::errno() == ENOENT {
-        return make_journal(path);
-    }
-    tell_failure(path);
-    NONE
 }
 
 // A line on what was found in the journal.
-fn tell_ready(path: &[u8], restored: Restored) {
-    tell_file(path);
-    tell_number(restored.done as u64);
-    tell(b" records");
+fn tell_ready(notes: &impl Print, path: &[u8], restored: Restored) {
+    tell_file(notes, path);
+    tell_number(notes, restored.done as u64);
+    tell(notes, b" records");
     if restored.rest > 0 {
-        tell(b"; ");
-        tell_number(restored.rest as u64);
-        tell(b" bytes of a torn record behind them are cut off");
+        tell(notes, b"; ");
+        tell_number(notes, restored.rest as u64);
+        tell(notes, b" bytes of a torn record behind them are cut off");
     }
-    tell(b"\n");
+    tell(notes, b"\n");
 }
 
 // The journal ends behind its whole records, is on the disk, and is written on from there. A torn record is cut off.
-fn is_ready(path: &[u8], journal: i32, restored: Restored) -> bool {
+fn make_ready<F: Seek + OpenFile>(journal: &mut F, restored: Restored) -> io::Result<()> {
     let end = place(restored.bytes);
     if restored.rest > 0 {
-        if libc::ftruncate(journal, end) != 0 {
-            tell_failure(path);
-            return false;
-        }
+        journal.set_len(end)?;
     }
-    if libc::fdatasync(journal) != 0 {
-        tell_failure(path);
+    journal.sync_data()?;
+    journal.seek(SeekFrom::Start(end))?;
+    Ok(())
+}
+
+// Whether that was done; a line says so, or why not.
+fn is_ready<F: Seek + OpenFile>(
+    notes: &impl Print,
+    path: &[u8],
+    journal: &mut F,
+    restored: Restored,
+) -> bool {
+    if let Err(error) = make_ready(journal, restored) {
+        tell_failure(notes, path, &error);
         return false;
     }
-    if libc::lseek(journal, end, SEEK_SET) != end {
-        tell_failure(path);
-        return false;
-    }
-    tell_ready(path, restored);
+    tell_ready(notes, path, restored);
     true
 }
 
-// The desk with the journal at a path, which goes on from the book.
-fn keep_at(path: &[u8], book: &mut [u32])
+// The desk with an open journal, which goes on from the book.
+fn keep_open<R: Files + Input + Print>(
+    rt: &R,
+    notes: &(impl Print + IsTerminal),
+    path: &[u8],
+    mut journal: R::File,
+    book: &mut [u32],
+) -> io::Result<()>
     requires { Began book.old }
 {
-    let journal = open_journal(path);
-    if journal < 0 {
-        return;
+    let restored = recover_file(notes, &mut journal, book);
+    if !is_sound(notes, path, &mut journal, restored) {
+        return Ok(());
     }
-    let restored = recover_file(journal, book);
-    if !is_sound(path, journal, restored) {
-        return;
+    if !is_ready(notes, path, &mut journal, restored) {
+        return Ok(());
     }
-    if !is_ready(path, journal, restored) {
-        return;
+    let mut kept = Some(journal);
+    serve_on(rt, notes, &mut kept, book)
+}
+
+// The same with the journal at a path. Where it can't be had, a line says why.
+fn keep_at<R: Files + Input + Print>(
+    rt: &R,
+    notes: &(impl Print + IsTerminal),
+    path: &[u8],
+    book: &mut [u32],
+) -> io::Result<()>
+    requires { Began book.old }
+{
+    match open_journal(rt, path) {
+        Ok(journal) => keep_open(rt, notes, path, journal, book),
+        Err(error) => {
+            tell_failure(notes, path, &error);
+            Ok(())
+        }
     }
-    serve_on(journal, book);
 }
 
 // The same with the journal that the first argument names.
-fn keep_on(book: &mut [u32])
+fn keep_on<R: Files + Env + Input + Print>(
+    rt: &R,
+    notes: &(impl Print + IsTerminal),
+    book: &mut [u32],
+) -> io::Result<()>
     requires { Began book.old }
 {
-    let mut path = io::buffer();
-    let n = os::arg(1, &mut path);
-    if os::errno() != 0 {
-        os::fail(b"desk: the name of the journal");
-        return;
+    let mut path = [0u8; PATH_ROOM];
+    match rt.arg(1, &mut path) {
+        Ok(n) => keep_at(rt, notes, &path[..n], book),
+        Err(error) => {
+            tell_unnamed(notes, b"the name of the journal", error);
+            Ok(())
+        }
     }
-    keep_at(&path[..n], book);
 }
 
 // The same; the journal goes on from the image that the second argument names.
-fn keep_behind(book: &mut [u32])
+fn keep_behind<R: Files + Env + Input + Print>(
+    rt: &R,
+    notes: &(impl Print + IsTerminal),
+    book: &mut [u32],
+) -> io::Result<()>
     requires { Began book.old }
 {
-    if load_named(2, book) {
-        keep_on(book);
+    if load_named(rt, notes, 2, book) {
+        return keep_on(rt, notes, book);
     }
+    Ok(())
 }
 
 // The desk with the journal that the first argument names, to the end of the input.
-pub fn keep() {
+pub fn keep<R: Files + Env + Input + Print>(
+    rt: &R,
+    notes: &(impl Print + IsTerminal),
+) -> io::Result<()> {
     let mut book = [0u32; BOOK_WORDS];
-    keep_on(&mut book);
+    keep_on(rt, notes, &mut book)
 }
 
 // The same; the journal goes on from the image that the second argument names.
-pub fn keep_from_image() {
+pub fn keep_from_image<R: Files + Env + Input + Print>(
+    rt: &R,
+    notes: &(impl Print + IsTerminal),
+) -> io::Result<()> {
     let mut book = [0u32; BOOK_WORDS];
-    keep_behind(&mut book);
+    keep_behind(rt, notes, &mut book)
 }

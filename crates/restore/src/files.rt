@@ -1,17 +1,58 @@
-// Places in files, and the folders that files lie in.
-ghost use Rattle.io.specs.Counts.{IsPrefixLen};
+// Files by their names, which are any bytes, and the folders that files lie in.
+ghost use Rattle.std.specs.Prelude.{◌≡◌, ◌≤◌, length, take};
 
-// A place in a file as the system counts it; -1, which is none, where it does not count so far.
-pub fn place(bytes: usize) -> i64 {
-    if bytes < 9223372036854775808 {
-        return bytes as i64;
+use std::fs::{Files, OpenFile, OpenOptions};
+use std::{fs, io};
+
+// How many bytes the name of a file has at most.
+pub const PATH_ROOM: usize = 4096;
+
+// A place in a file, as the system counts it. One that it does not count so far it refuses.
+pub fn place(bytes: usize) -> u64 {
+    bytes as u64
+}
+
+// The text that a name is. The system's library takes no name that is not text.
+fn name_of(path: &[u8]) -> io::Result<&str> {
+    match str::from_utf8(path) {
+        Ok(name) => Ok(name),
+        Err(_) => Err(io::Error::from(io::ErrorKind::InvalidFilename)),
     }
-    -1
+}
+
+// The file at a path, open for reading.
+pub fn open_read<R: Files>(files: &R, path: &[u8]) -> io::Result<R::File> {
+    fs::open(files, name_of(path)?)
+}
+
+// The file at a path, open for reading and writing, with its bytes as they are.
+pub fn open_update<R: Files>(files: &R, path: &[u8]) -> io::Result<R::File> {
+    let name = name_of(path)?;
+    OpenOptions::new().read(true).write(true).open(files, name)
+}
+
+// A new file at a path, open for writing; none where the name is taken.
+pub fn create<R: Files>(files: &R, path: &[u8]) -> io::Result<R::File> {
+    let name = name_of(path)?;
+    OpenOptions::new()
+        .write(true)
+        .create_new(true)
+        .open(files, name)
+}
+
+// A file gets another name.
+pub fn rename(files: &impl Files, from: &[u8], to: &[u8]) -> io::Result<()> {
+    fs::rename(files, name_of(from)?, name_of(to)?)
+}
+
+// There is no such file.
+pub fn remove(files: &impl Files, path: &[u8]) -> io::Result<()> {
+    fs::remove_file(files, name_of(path)?)
 }
 
 // How many bytes of a path name the folder: those up to its last slash, that one too.
 fn folder_length(path: &[u8]) -> usize
-    ensures { IsPrefixLen result path.now }
+    ensures { (result ≤ length path.now) × (result ≡ length (take result path.now)) }
 {
     let mut i = path.len();
     while i > 0 {
@@ -23,21 +64,15 @@ fn folder_length(path: &[u8]) -> usize
     0
 }
 
-fn is_synced(folder: &[u8]) -> bool {
-    let opened = os::open_read(folder);
-    if opened < 0 {
-        return false;
-    }
-    let synced = libc::fsync(opened) == 0;
-    libc::close(opened);
-    synced
+fn sync_opened(files: &impl Files, folder: &[u8]) -> io::Result<()> {
+    open_read(files, folder)?.sync_all()
 }
 
 // The folder that a path lies in is on the disk with the names in it, so that a file which was just made or named is found after the power goes.
-pub fn sync_folder(path: &[u8]) -> bool {
+pub fn sync_folder(files: &impl Files, path: &[u8]) -> io::Result<()> {
     let n = folder_length(path);
     if n == 0 {
-        return is_synced(b".");
+        return sync_opened(files, b".");
     }
-    is_synced(&path[..n])
+    sync_opened(files, &path[..n])
 }

@@ -1,12 +1,17 @@
 // A journal that a file holds: it is recovered a buffer at a time, and what comes of it is judged.
+ghost use Rattle.std.specs.Prelude.{◌≤◌, length, IfOk};
 ghost use Rattle.stream.specs.Stream.{Began};
 
 use crate::files::place;
 use crate::tell::{tell, tell_failure, tell_file, tell_number};
 use events::answer::RECORD_ROOM;
-use libc::{SEEK_END, STDERR_FILENO};
 use recovery::{Recovered, recover};
 use replayer::{BAD_RECORD, CUT};
+use std::io;
+use std::io::{IsTerminal, Read, Seek, SeekFrom};
+
+// How many bytes of a journal are read at a time.
+const BUFFER_BYTES: usize = 65536;
 
 // How recovery ends behind a whole record.
 const WHOLE: u32 = 0;
@@ -15,7 +20,7 @@ const WHOLE: u32 = 0;
 const TOLD_BYTES: usize = 16777216;
 
 // What has come of a journal so far: how many records were done, how many bytes they have, how many bytes were read behind those, how recovery ended, whether there may be more to read, and
-// whether the file could be read.
+// why the file could not be read, where it could not.
 #[derive(Clone, Copy)]
 pub struct Restored {
     pub done: usize,
@@ -23,7 +28,7 @@ pub struct Restored {
     pub rest: usize,
     pub end: u32,
     pub goes_on: bool,
-    pub readable: bool,
+    pub failure: Option<io::Error>,
 }
 
 // The records that the bytes begin with are done on the book.
@@ -42,49 +47,79 @@ fn goes_on(counted: usize, end: u32) -> bool {
     end == WHOLE || end == CUT
 }
 
-fn tell_progress(before: usize, bytes: usize, done: usize) {
+fn tell_progress(notes: &(impl Print + IsTerminal), before: usize, bytes: usize, done: usize) {
     if before / TOLD_BYTES < bytes / TOLD_BYTES {
-        if libc::isatty(STDERR_FILENO) == 1 {
-            tell(b"desk: recovering, ");
-            tell_number(done as u64);
-            tell(b" records so far\n");
+        if notes.is_terminal() {
+            tell(notes, b"desk: recovering, ");
+            tell_number(notes, done as u64);
+            tell(notes, b" records so far\n");
         }
     }
 }
 
 // What has come of a journal, with what is told of so many bytes more. No file is so long that a sum wraps, and no more bytes count than were read.
-fn counted_on(so_far: Restored, told: Recovered, count: usize, readable: bool) -> Restored {
+fn counted_on(
+    notes: &(impl Print + IsTerminal),
+    so_far: Restored,
+    told: Recovered,
+    count: usize,
+    failure: Option<io::Error>,
+) -> Restored {
     let counted = told.bytes;
     let end = told.end;
     let done = std::num::wrapping_add_usize(so_far.done, told.done);
     let bytes = std::num::wrapping_add_usize(so_far.bytes, counted);
     let rest = std::num::wrapping_sub_usize(count, counted);
     let more = goes_on(counted, end);
-    tell_progress(so_far.bytes, bytes, done);
+    tell_progress(notes, so_far.bytes, bytes, done);
     Restored {
         done: done,
         bytes: bytes,
         rest: rest,
         end: end,
         goes_on: more,
-        readable: readable,
+        failure: failure,
     }
 }
 
+// A buffer of a file's bytes, from so many of them on.
+fn read_behind<F: Read + Seek>(file: &mut F, bytes: usize, buffer: &mut [u8]) -> io::Result<usize>
+    ensures { IfOk result (λ n. n ≤ length buffer.new) }
+{
+    file.seek(SeekFrom::Start(place(bytes)))?;
+    file.read(buffer)
+}
+
 // A buffer of the journal's bytes, from behind those that count so far on, is read, and the records that it begins with are done on the book.
-fn recover_more(journal: i32, book: &mut [u32], buffer: &mut [u8], so_far: Restored) -> Restored
+fn recover_more<F: Read + Seek>(
+    notes: &(impl Print + IsTerminal),
+    journal: &mut F,
+    book: &mut [u32],
+    buffer: &mut [u8],
+    so_far: Restored,
+) -> Restored
     requires { Began book.old }
     ensures { Began book.new }
 {
-    let at = place(so_far.bytes);
-    let got = libc::pread(journal, buffer, at);
-    let n = io::count(got, buffer);
-    let told = recover_on(book, &buffer[..n]);
-    counted_on(so_far, told, n, got >= 0)
+    match read_behind(journal, so_far.bytes, buffer) {
+        Ok(n) => {
+            let told = recover_on(book, &buffer[..n]);
+            counted_on(notes, so_far, told, n, None)
+        }
+        Err(error) => {
+            let told = recover_on(book, &[]);
+            counted_on(notes, so_far, told, 0, Some(error))
+        }
+    }
 }
 
-// The records of a journal are done on the book, as long as they come and are done. The buffers are counted down from a number that no file uses up.
-fn recover_all(journal: i32, book: &mut [u32], buffer: &mut [u8]) -> Restored
+// The records of a journal are done on the book, as long as they come and are done.
+fn recover_all<F: Read + Seek>(
+    notes: &(impl Print + IsTerminal),
+    journal: &mut F,
+    book: &mut [u32],
+    buffer: &mut [u8],
+) -> Restored
     requires { Began book.old }
     ensures { Began book.new }
 {
@@ -94,71 +129,86 @@ fn recover_all(journal: i32, book: &mut [u32], buffer: &mut [u8]) -> Restored
         rest: 0,
         end: WHOLE,
         goes_on: true,
-        readable: true,
+        failure: None,
     };
-    let mut turns = u64::MAX;
-    while turns > 0 && so_far.goes_on {
-        so_far = recover_more(journal, book, buffer, so_far);
-        turns -= 1;
+    'buffers: for _ in 0..u64::MAX {
+        so_far = recover_more(notes, journal, book, buffer, so_far);
+        if !so_far.goes_on {
+            break 'buffers;
+        }
     }
     so_far
 }
 
 // The book becomes that after the records of an open journal. Any bytes are taken.
-pub fn recover_file(journal: i32, book: &mut [u32]) -> Restored
+pub fn recover_file<F: Read + Seek>(
+    notes: &(impl Print + IsTerminal),
+    journal: &mut F,
+    book: &mut [u32],
+) -> Restored
     requires { Began book.old }
     ensures { Began book.new }
 {
-    let mut buffer = io::large_buffer();
-    recover_all(journal, book, &mut buffer)
+    let mut buffer = [0u8; BUFFER_BYTES];
+    recover_all(notes, journal, book, &mut buffer)
 }
 
 // A line on the record that recovery stopped at.
-fn tell_stop(path: &[u8], restored: Restored) {
+fn tell_stop(notes: &impl Print, path: &[u8], restored: Restored) {
     let end = restored.end;
-    tell_file(path);
-    tell(b"record ");
-    tell_number(std::num::wrapping_add_u64(restored.done as u64, 1));
-    tell(b", at byte ");
-    tell_number(restored.bytes as u64);
+    tell_file(notes, path);
+    tell(notes, b"record ");
+    tell_number(notes, std::num::wrapping_add_u64(restored.done as u64, 1));
+    tell(notes, b", at byte ");
+    tell_number(notes, restored.bytes as u64);
     if end == BAD_RECORD {
-        tell(b", is of no known kind (");
+        tell(notes, b", is of no known kind (");
     } else if end == CUT {
-        tell(b", says that it has more bytes than any record of a call that was done (");
+        tell(
+            notes,
+            b", says that it has more bytes than any record of a call that was done (",
+        );
     } else {
-        tell(b", is refused (");
+        tell(notes, b", is refused (");
     }
-    tell_number(end as u64);
-    tell(b"): nothing was written\n");
+    tell_number(notes, end as u64);
+    tell(notes, b"): nothing was written\n");
 }
 
 // Whether the file ends where it was read to; else a line says so.
-fn is_all(path: &[u8], journal: i32, restored: Restored) -> bool {
+fn is_all<F: Seek>(notes: &impl Print, path: &[u8], journal: &mut F, restored: Restored) -> bool {
     let end = place(std::num::wrapping_add_usize(restored.bytes, restored.rest));
-    if libc::lseek(journal, 0, SEEK_END) == end {
-        return true;
+    if let Ok(at) = journal.seek(SeekFrom::End(0)) {
+        if at == end {
+            return true;
+        }
     }
-    tell_file(path);
-    tell(b"it was not read to its end: nothing was written\n");
+    tell_file(notes, path);
+    tell(notes, b"it was not read to its end: nothing was written\n");
     false
 }
 
 // Whether a journal was read to its end and nothing in it is wrong; else a line says what. A torn record is not wrong. A record of a done call has at most 82 bytes: where as
 // many are left, no record was torn, and the byte that counts its numbers was damaged.
-pub fn is_sound(path: &[u8], journal: i32, restored: Restored) -> bool {
-    if !restored.readable {
-        tell_failure(path);
+pub fn is_sound<F: Seek>(
+    notes: &impl Print,
+    path: &[u8],
+    journal: &mut F,
+    restored: Restored,
+) -> bool {
+    if let Some(error) = restored.failure {
+        tell_failure(notes, path, &error);
         return false;
     }
     let end = restored.end;
     if end == WHOLE {
-        return is_all(path, journal, restored);
+        return is_all(notes, path, journal, restored);
     }
     if end == CUT {
         if restored.rest < RECORD_ROOM {
-            return is_all(path, journal, restored);
+            return is_all(notes, path, journal, restored);
         }
     }
-    tell_stop(path, restored);
+    tell_stop(notes, path, restored);
     false
 }

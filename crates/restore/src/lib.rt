@@ -4,6 +4,7 @@
 // read. What is promised of each function that is lent the book is that it leaves a book that a desk may begin with.
 #![tactic(auto)]
 
+pub mod arguments;
 pub mod files;
 pub mod image_file;
 pub mod journal_file;

@@ -2,16 +2,20 @@
 // name when it is all there and on the disk; until then it lies beside, under that name with a `~` behind it.
 #![tactic(auto)]
 
-ghost use Rattle.io.specs.Counts.{IsPrefixLen};
+ghost use Rattle.std.specs.Prelude.{◌≡◌, ◌≤◌, length, take};
 ghost use Rattle.stream.specs.Stream.{Began};
 
 use book::layout::BOOK_WORDS;
 use image::{IMAGE_BYTES, save};
-use libc::ENOENT;
-use restore::files::sync_folder;
+use restore::arguments::arg_count;
+use restore::files::{PATH_ROOM, create, open_read, remove, rename, sync_folder};
 use restore::image_file::load_named;
 use restore::journal_file::{is_sound, recover_file};
-use restore::tell::{tell, tell_failure, tell_file};
+use restore::tell::{tell, tell_failure, tell_file, tell_unnamed};
+use std::env::Env;
+use std::fs::{Files, OpenFile};
+use std::io;
+use std::io::{IsTerminal, Write};
 
 // As many arguments, the program's own name among them, as there are without an image to go on from, and with one.
 const PLAIN: usize = 3;
@@ -19,24 +23,27 @@ const PLAIN: usize = 3;
 const FROM_IMAGE: usize = 4;
 
 // Whether nothing has this name yet; else a line says so.
-fn is_free(path: &[u8]) -> bool {
-    let there = os::open_read(path);
-    if there >= 0 {
-        libc::close(there);
-        tell_file(path);
-        tell(b"it is there already: nothing was written\n");
-        return false;
+fn is_free(files: &impl Files, notes: &impl Print, path: &[u8]) -> bool {
+    match open_read(files, path) {
+        Ok(there) => {
+            drop(there);
+            tell_file(notes, path);
+            tell(notes, b"it is there already: nothing was written\n");
+            false
+        }
+        Err(error) => {
+            if error.kind() == io::ErrorKind::NotFound {
+                return true;
+            }
+            tell_failure(notes, path, &error);
+            false
+        }
     }
-    if os::errno() == ENOENT {
-        return true;
-    }
-    tell_failure(path);
-    false
 }
 
 // The name beside the one that the n first bytes are: a byte more. Where there is no room for it, it is none, of no bytes.
 fn name_beside(name: &mut [u8], n: usize) -> usize
-    ensures { IsPrefixLen result name.new }
+    ensures { (result ≤ length name.new) × (result ≡ length (take result name.new)) }
 {
     if n < name.len() {
         name[n] = b'~';
@@ -45,133 +52,140 @@ fn name_beside(name: &mut [u8], n: usize) -> usize
     0
 }
 
-// The bytes are in a file, and on the disk.
-fn is_kept(file: i32, bytes: &[u8]) -> bool {
-    let written = io::write_all(file, bytes);
-    if !written {
-        return false;
-    }
-    libc::fdatasync(file) == 0
+// The bytes are in a file, and on the disk; then it is closed.
+fn keep_in<F: Write + OpenFile + Drop>(mut file: F, bytes: &[u8]) -> io::Result<()> {
+    file.write_all(bytes)?;
+    file.sync_data()
 }
 
-// The bytes are in a new file at a path, and on the disk. Where they can't be, a line says why, and there is no such file.
-fn is_made(path: &[u8], bytes: &[u8]) -> bool {
-    let file = os::create(path);
-    if file < 0 {
-        tell_failure(path);
-        return false;
+// Whether the bytes are in a new file at a path, and on the disk. Where they can't be, a line says why, and there is no such file.
+fn is_made(files: &impl Files, notes: &impl Print, path: &[u8], bytes: &[u8]) -> bool {
+    match create(files, path) {
+        Ok(file) => {
+            if let Err(error) = keep_in(file, bytes) {
+                tell_failure(notes, path, &error);
+                let _ = remove(files, path);
+                return false;
+            }
+            true
+        }
+        Err(error) => {
+            tell_failure(notes, path, &error);
+            false
+        }
     }
-    if is_kept(file, bytes) {
-        libc::close(file);
-        return true;
-    }
-    tell_failure(path);
-    libc::close(file);
-    os::unlink(path);
-    false
 }
 
 // The bytes are in a new file at a path, all of them or none, and so they are after the power goes.
-fn save_at(path: &[u8], beside: &[u8], bytes: &[u8]) {
-    if !is_free(path) {
+fn save_at(files: &impl Files, notes: &impl Print, path: &[u8], beside: &[u8], bytes: &[u8]) {
+    if !is_free(files, notes, path) {
         return;
     }
-    if !is_made(beside, bytes) {
+    if !is_made(files, notes, beside, bytes) {
         return;
     }
-    if os::rename(beside, path) != 0 {
-        tell_failure(path);
-        os::unlink(beside);
+    if let Err(error) = rename(files, beside, path) {
+        tell_failure(notes, path, &error);
+        let _ = remove(files, beside);
         return;
     }
-    if !sync_folder(path) {
-        tell_failure(path);
+    if let Err(error) = sync_folder(files, path) {
+        tell_failure(notes, path, &error);
     }
 }
 
 // The same at the path that the second argument names.
-fn save_named(bytes: &[u8]) {
-    let mut path = io::buffer();
-    let n = os::arg(2, &mut path);
-    if os::errno() != 0 {
-        os::fail(b"desk: the name of the new image");
-        return;
+fn save_named<R: Files + Env>(rt: &R, notes: &impl Print, bytes: &[u8]) {
+    let mut path = [0u8; PATH_ROOM];
+    match rt.arg(2, &mut path) {
+        Ok(n) => {
+            let mut beside = path;
+            let k = name_beside(&mut beside, n);
+            save_at(rt, notes, &path[..n], &beside[..k], bytes);
+        }
+        Err(error) => tell_unnamed(notes, b"the name of the new image", error),
     }
-    let mut beside = io::buffer();
-    let m = os::arg(2, &mut beside);
-    let k = name_beside(&mut beside, m);
-    save_at(&path[..n], &beside[..k], bytes);
 }
 
 // The image of a book is saved there, if something was set up.
-fn save_book(book: &[u32]) {
+fn save_book<R: Files + Env>(rt: &R, notes: &impl Print, book: &[u32]) {
     let mut bytes = [0u8; IMAGE_BYTES];
     let number = save(book, &mut bytes);
     if number == 0 {
-        save_named(&bytes);
+        save_named(rt, notes, &bytes);
         return;
     }
-    tell(b"desk: no register is set up (1): nothing was written\n");
+    tell(
+        notes,
+        b"desk: no register is set up (1): nothing was written\n",
+    );
 }
 
 // Whether the records of the journal at a path were done on the book, without a fault; else a line says why not. The journal stays as it is.
-fn is_recovered(path: &[u8], book: &mut [u32]) -> bool
+fn is_recovered(
+    files: &impl Files,
+    notes: &(impl Print + IsTerminal),
+    path: &[u8],
+    book: &mut [u32],
+) -> bool
     requires { Began book.old }
 {
-    let journal = os::open_read(path);
-    if journal < 0 {
-        tell_failure(path);
-        return false;
+    match open_read(files, path) {
+        Ok(mut journal) => {
+            let restored = recover_file(notes, &mut journal, book);
+            is_sound(notes, path, &mut journal, restored)
+        }
+        Err(error) => {
+            tell_failure(notes, path, &error);
+            false
+        }
     }
-    let restored = recover_file(journal, book);
-    let sound = is_sound(path, journal, restored);
-    libc::close(journal);
-    sound
 }
 
 // The journal that the first argument names goes on from the book, and the image of what comes of it is saved.
-fn save_on(book: &mut [u32])
+fn save_on<R: Files + Env>(rt: &R, notes: &(impl Print + IsTerminal), book: &mut [u32])
     requires { Began book.old }
 {
-    let mut path = io::buffer();
-    let n = os::arg(1, &mut path);
-    if os::errno() != 0 {
-        os::fail(b"desk: the name of the journal");
-        return;
-    }
-    if is_recovered(&path[..n], book) {
-        save_book(book);
+    let mut path = [0u8; PATH_ROOM];
+    match rt.arg(1, &mut path) {
+        Ok(n) => {
+            if is_recovered(rt, notes, &path[..n], book) {
+                save_book(rt, notes, book);
+            }
+        }
+        Err(error) => tell_unnamed(notes, b"the name of the journal", error),
     }
 }
 
 // The same; the journal goes on from the image that the third argument names.
-fn save_behind(book: &mut [u32])
+fn save_behind<R: Files + Env>(rt: &R, notes: &(impl Print + IsTerminal), book: &mut [u32])
     requires { Began book.old }
 {
-    if load_named(3, book) {
-        save_on(book);
+    if load_named(rt, notes, 3, book) {
+        save_on(rt, notes, book);
     }
 }
 
-fn save_journal() {
+fn save_journal<R: Files + Env>(rt: &R, notes: &(impl Print + IsTerminal)) {
     let mut book = [0u32; BOOK_WORDS];
-    save_on(&mut book);
+    save_on(rt, notes, &mut book);
 }
 
-fn save_behind_image() {
+fn save_behind_image<R: Files + Env>(rt: &R, notes: &(impl Print + IsTerminal)) {
     let mut book = [0u32; BOOK_WORDS];
-    save_behind(&mut book);
+    save_behind(rt, notes, &mut book);
 }
 
-fn main() {
-    let words = os::arg_count();
+fn main(rt: HostRuntime) {
+    let notes = rt.stderr();
+    let words = arg_count(&rt, FROM_IMAGE + 1);
     if words == PLAIN {
-        save_journal();
+        save_journal(&rt, &notes);
         return;
     }
     if words == FROM_IMAGE {
-        save_behind_image();
+        save_behind_image(&rt, &notes);
         return;
     }
-    tell(b"usage: snapshot JOURNAL NEW_IMAGE [IMAGE]\n");
+    tell(&notes, b"usage: snapshot JOURNAL NEW_IMAGE [IMAGE]\n");
 }
