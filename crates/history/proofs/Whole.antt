@@ -165,7 +165,7 @@ all_few r [] e l =
     record { counted = sym (add-zero r.lines); words = ap (λ (n : ℕ). take (n * 11) r.words) (add-zero r.lines) ∙ sym (append-nil _) }
 all_few r (s ∷ ss) e l =
     subst (λ (q : Read). Few r (s ∷ ss) (all q ss)) (sym (ended_few r s (omega arith)))
-    (few_more r s ss _ e l (all_few _ ss (length-sets r.words (r.lines * 11) (stored (entry_in s)) ∙ e) (omega arith)))
+    (few_more r s ss _ e l (all_few (record { words = sets r.words (r.lines * 11) (stored (entry_in s)); lines = r.lines + 1; line = [] }) ss (length-sets r.words (r.lines * 11) (stored (entry_in s)) ∙ e) (omega arith)))
 
 all_many : (r : Read) (ss : List (List ℕ)) → r.lines ≤ 257 → 256 < r.lines + length ss → (all r ss).lines ≡ 257
 unfolding all

@@ -1,6 +1,6 @@
 -- `almanac::all_dates` ends and nothing in it wraps: the cases are counted up to a limit.
 -- Assumes nothing.
-use Rattle.std.proofs.Common.{◌-◌, ◌≤◌, rules}
+use Rattle.std.proofs.Common.{◌-◌, ◌≤◌}
 use Rattle.almanac.proofs.all_dates.Given as goal
 
 abbrev pub invariant-loop-i : goal.invariant-loop-i

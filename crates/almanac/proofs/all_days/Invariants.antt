@@ -1,6 +1,6 @@
 -- `almanac::all_days` ends and nothing in it wraps: the days are counted up to a limit.
 -- Assumes nothing.
-use Rattle.std.proofs.Common.{◌-◌, ◌≤◌, rules}
+use Rattle.std.proofs.Common.{◌-◌, ◌≤◌}
 use Rattle.almanac.proofs.all_days.Given as goal
 
 abbrev pub invariant-loop-k : goal.invariant-loop-k

@@ -1,6 +1,6 @@
 -- `almanac::many_anchors` ends and nothing in it wraps: the cases are counted up to a limit.
 -- Assumes nothing.
-use Rattle.std.proofs.Common.{◌-◌, ◌≤◌, rules}
+use Rattle.std.proofs.Common.{◌-◌, ◌≤◌}
 use Rattle.almanac.proofs.many_anchors.Given as goal
 
 abbrev pub invariant-loop-i : goal.invariant-loop-i

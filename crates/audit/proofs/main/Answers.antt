@@ -2,7 +2,6 @@
 -- Assumes nothing.
 use mathlib.Core.Path.{sym}
 use lib.Seq.{length-take-le}
-use borrow.Author.Rules.{rules}
 use Rattle.history.proofs.StreamLaws.{seen_start}
 use Rattle.audit.proofs.main.Goals as goal
 

@@ -2,11 +2,8 @@
 -- Assumes nothing.
 use Prim.Native.Nat.{◌<◌}
 use native.Mathlib.Omega.{arith}
-use mathlib.Core.Path.{◌≡◌, refl, ◌∙◌}
-use lib.ListN.{length}
-use borrow.Author.Rules.{rules}
+use mathlib.Core.Path.{refl, ◌∙◌}
 use borrow.Author.Tests.{ltb-true}
-use Rattle.history.specs.Stream.{Seen}
 use Rattle.history.proofs.StreamLaws.{seen_more}
 use Rattle.audit.proofs.read_all.Goals as goal
 

@@ -1,10 +1,9 @@
 -- `audit_answers::tell` meets its contract. The loop's invariant: the buffers hold what was read.
 -- Assumes nothing.
-use Prim.Native.Nat.{◌≤◌, ◌-◌}
+use Prim.Native.Nat.{◌-◌}
 use mathlib.Core.Path.{sym}
 use lib.Seq.{length-take-le}
 use borrow.Author.Rules.{rules}
-use Rattle.history.specs.Stream.{Seen}
 use Rattle.history.proofs.StreamLaws.{seen_start, seen_more}
 use Rattle.audit_answers.proofs.tell.Goals as goal
 

@@ -5,7 +5,6 @@ use Rattle.calendar.specs.declared.answers.DateAnswer.{DateAnswer}
 use Rattle.book.specs.Words.{put}
 use Rattle.room.proofs.RoomLaws.{with_room, no_room_law}
 use Rattle.dates.specs.Told.{date_number, next_out}
-use borrow.Author.Rules.{rules}
 use Rattle.dates.proofs.tell_next.Goals as goal
 
 pub returns-then-out-lt-NEXT_WORDS : goal.returns-then-out-lt-NEXT_WORDS

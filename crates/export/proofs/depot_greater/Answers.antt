@@ -6,7 +6,6 @@ use Rattle.order.specs.Record.{most_depots}
 use Rattle.loops.proofs.BoolLaws.{pick_true, pick_false}
 use Rattle.export.specs.Numbers.{greater_number}
 use Rattle.export.proofs.GreaterLaws.{greater_none, greater_many, greater_by}
-use borrow.Author.Rules.{rules}
 use Rattle.export.proofs.depot_greater.Goals as goal
 
 pub returns-then-n-eq0 : goal.returns-then-n-eq0

@@ -2,7 +2,6 @@
 -- Assumes nothing.
 use mathlib.Core.Path.{sym, ◌∙◌}
 use Rattle.loops.proofs.BoolLaws.{pick_true, pick_false}
-use borrow.Author.Rules.{rules}
 use Rattle.export.proofs.depot_is_fit.Goals as goal
 
 pub returns-then-is_fit : goal.returns-then-is_fit

@@ -2,7 +2,6 @@
 -- Assumes nothing.
 use Rattle.upkeep.specs.Requests.{refreshed}
 use Rattle.telling.proofs.CallLaws.{by_call}
-use borrow.Author.Rules.{rules}
 use Rattle.export.proofs.depot_refresh.Goals as goal
 
 pub returns : goal.returns

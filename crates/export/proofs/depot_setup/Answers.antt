@@ -2,7 +2,6 @@
 -- Assumes nothing.
 use Rattle.upkeep.specs.Requests.{setting_up}
 use Rattle.telling.proofs.CallLaws.{by_call}
-use borrow.Author.Rules.{rules}
 use Rattle.export.proofs.depot_setup.Goals as goal
 
 pub returns : goal.returns

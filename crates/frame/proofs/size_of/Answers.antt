@@ -4,7 +4,6 @@ use mathlib.Core.Path.{sym, ◌∙◌}
 use borrow.Author.Tests.{eq-eqb, ne_eqb}
 use Rattle.loops.proofs.BoolLaws.{pick_true, pick_false}
 use Rattle.frame.specs.Frame.{size_of}
-use borrow.Author.Rules.{rules}
 use Rattle.frame.proofs.size_of.Goals as goal
 
 pub returns-then-kind-eq-BEAT : goal.returns-then-kind-eq-BEAT

@@ -2,7 +2,6 @@
 -- Assumes nothing.
 use native.Mathlib.Omega.{arith}
 use Rattle.frame.specs.Frame.{whom}
-use borrow.Author.Rules.{rules}
 use Rattle.frame.proofs.whom_of.Goals as goal
 
 pub returns : goal.returns

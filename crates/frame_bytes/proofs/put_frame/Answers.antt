@@ -8,7 +8,6 @@ use lib.ListN.{length}
 use Rattle.book.specs.Layout.{slot}
 use Rattle.book.proofs.WordsLaws.{length_put}
 use Rattle.frame_bytes.proofs.BytesLaws.{place_least, frame_put}
-use borrow.Author.Rules.{rules}
 use Rattle.frame_bytes.proofs.put_frame.Goals as goal
 
 pub put_head-requires : goal.put_head-requires

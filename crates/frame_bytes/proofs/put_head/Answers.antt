@@ -1,13 +1,12 @@
 -- `frame_bytes::put_head` meets its contract.
 -- Assumes nothing.
 use native.Mathlib.Omega.{arith}
-use mathlib.Core.Path.{◌≡◌, refl, ◌∙◌, ap, ap₂}
+use mathlib.Core.Path.{◌∙◌, ap}
 use lib.ListN.{length, length-set}
 use Rattle.book.specs.Words.{put}
 use Rattle.book.proofs.WordsLaws.{length_put}
 use Rattle.wire.specs.Wire.{half_bytes}
 use Rattle.frame.specs.Frame.{head_of}
-use borrow.Author.Rules.{rules}
 use Rattle.frame_bytes.proofs.put_head.Goals as goal
 
 pub bounds-out-1 : goal.bounds-out-1

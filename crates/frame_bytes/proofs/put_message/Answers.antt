@@ -1,13 +1,12 @@
 -- `frame_bytes::put_message` meets its contract: by the kind.
 -- Assumes nothing.
 use native.Mathlib.Omega.{arith}
-use mathlib.Core.Path.{◌∙◌, ap, refl}
+use mathlib.Core.Path.{◌∙◌, ap}
 use lib.ListN.{length, length-set}
 use Rattle.book.specs.Layout.{kind_of}
 use Rattle.book.proofs.WordsLaws.{length_put}
 use Rattle.frame.proofs.MessageLaws.{size_beat, size_copy}
 use Rattle.frame_bytes.proofs.BytesLaws.{beat_put, copy_put, none_put}
-use borrow.Author.Rules.{rules}
 use Rattle.frame_bytes.proofs.put_message.Goals as goal
 
 pub bounds-out-at : goal.bounds-out-at

@@ -1,19 +1,12 @@
 -- What the loop keeps, and what falls. Answers.antt has the idea.
 -- Assumes nothing.
-use Prim.Native.Nat.{ℕ, ◌+◌, ◌≤◌, ◌-◌}
-use native.Mathlib.Omega.{arith}
-use native.Mathlib.Nat.{le_antisymm}
-use mathlib.Core.Path.{◌≡◌, refl, ◌∙◌, sym, ap, subst}
-use mathlib.Core.List.{List}
+use Prim.Native.Nat.{◌+◌, ◌≤◌, ◌-◌}
+use mathlib.Core.Path.{◌≡◌}
 use lib.ListN.{length}
 use Rattle.book.specs.Words.{put}
-use Rattle.book.specs.Layout.{kind_of, slot}
-use Rattle.book.proofs.WordsLaws.{length_put, part_from}
+use Rattle.book.specs.Layout.{slot}
 use Rattle.wire.specs.Wire.{joined}
-use Rattle.wire.proofs.WireLaws.{put_none, put_run}
-use Rattle.frame.specs.Frame.{body_at, size_of, message_bytes, place_of, messages_of}
-use Rattle.frame_bytes.proofs.BytesLaws.{kind_there, place_none, place_more, place_most, place_room, place_runs}
-use borrow.Author.Rules.{rules}
+use Rattle.frame.specs.Frame.{body_at, message_bytes, place_of}
 use Rattle.frame_bytes.proofs.put_messages.Given as goal
 
 abbrev pub invariant-loop-i : goal.invariant-loop-i

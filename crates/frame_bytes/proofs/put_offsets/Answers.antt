@@ -1,6 +1,6 @@
 -- `frame_bytes::put_offsets` meets its contract. The loop's invariant: the offsets passed stand in the buffer, and the next message goes to `at`.
 -- Assumes nothing.
-use Prim.Native.Nat.{ℕ, ◌+◌, ◌≤◌, ◌-◌}
+use Prim.Native.Nat.{ℕ, ◌+◌, ◌-◌}
 use native.Mathlib.Omega.{arith}
 use native.Mathlib.Nat.{le_antisymm}
 use mathlib.Core.Path.{◌≡◌, refl, ◌∙◌, ap}

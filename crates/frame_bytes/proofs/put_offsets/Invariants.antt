@@ -1,19 +1,12 @@
 -- What the loop keeps, and what falls. Answers.antt has the idea.
 -- Assumes nothing.
-use Prim.Native.Nat.{ℕ, ◌+◌, ◌≤◌, ◌-◌}
-use native.Mathlib.Omega.{arith}
-use native.Mathlib.Nat.{le_antisymm}
-use mathlib.Core.Path.{◌≡◌, refl, ◌∙◌, ap}
-use mathlib.Core.List.{List}
+use Prim.Native.Nat.{◌+◌, ◌≤◌, ◌-◌}
+use mathlib.Core.Path.{◌≡◌}
 use lib.ListN.{length}
 use Rattle.book.specs.Words.{put}
-use Rattle.book.specs.Layout.{kind_of, slot}
-use Rattle.book.proofs.WordsLaws.{length_put}
+use Rattle.book.specs.Layout.{slot}
 use Rattle.wire.specs.Wire.{half_bytes, joined}
-use Rattle.wire.proofs.WireLaws.{put_none, put_run}
-use Rattle.frame.specs.Frame.{size_of, place_of, offsets_of}
-use Rattle.frame_bytes.proofs.BytesLaws.{kind_there, place_none, place_more, place_most, offset_runs}
-use borrow.Author.Rules.{rules}
+use Rattle.frame.specs.Frame.{place_of}
 use Rattle.frame_bytes.proofs.put_offsets.Given as goal
 
 abbrev pub invariant-loop-i : goal.invariant-loop-i

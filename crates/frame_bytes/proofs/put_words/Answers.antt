@@ -1,9 +1,9 @@
 -- `frame_bytes::put_words` meets its contract. The loop's invariant: the words passed stand in the buffer.
 -- Assumes nothing.
-use Prim.Native.Nat.{ℕ, ◌+◌, ◌≤◌, ◌-◌}
+use Prim.Native.Nat.{ℕ, ◌-◌}
 use native.Mathlib.Omega.{arith}
 use native.Mathlib.Nat.{le_antisymm}
-use mathlib.Core.Path.{◌≡◌, refl, ◌∙◌, ap}
+use mathlib.Core.Path.{refl, ◌∙◌, ap}
 use lib.ListN.{length}
 use Rattle.book.specs.Words.{put}
 use Rattle.book.proofs.WordsLaws.{length_put}

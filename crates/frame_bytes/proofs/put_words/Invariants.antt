@@ -1,17 +1,11 @@
 -- What the loop keeps, and what falls. Answers.antt has the idea.
 -- Assumes nothing.
-use Prim.Native.Nat.{ℕ, ◌+◌, ◌≤◌, ◌-◌}
-use native.Mathlib.Omega.{arith}
-use native.Mathlib.Nat.{le_antisymm}
-use mathlib.Core.Path.{◌≡◌, refl, ◌∙◌, ap}
+use Prim.Native.Nat.{◌+◌, ◌≤◌, ◌-◌}
+use mathlib.Core.Path.{◌≡◌}
 use lib.ListN.{length}
 use Rattle.book.specs.Words.{put}
-use Rattle.book.proofs.WordsLaws.{length_put}
 use Rattle.wire.specs.Wire.{word_bytes, joined}
-use Rattle.wire.proofs.WireLaws.{put_none, put_run}
 use Rattle.frame.specs.Frame.{sent_word}
-use Rattle.frame_bytes.proofs.BytesLaws.{word_runs}
-use borrow.Author.Rules.{rules}
 use Rattle.frame_bytes.proofs.put_words.Given as goal
 
 abbrev pub invariant-loop-i : goal.invariant-loop-i

@@ -1,12 +1,11 @@
 -- `frame_bytes::sent_word` meets its contract.
 -- Assumes nothing.
 use Prim.Native.Nat.{ℕ}
-use mathlib.Core.Path.{◌∙◌, sym, ap}
+use mathlib.Core.Path.{sym, ap}
 use lib.ListN.{get_or}
 use borrow.Author.Tests.{lt-ltb, le-ltb}
 use Rattle.loops.proofs.BoolLaws.{pick_true, pick_false}
 use Rattle.frame.specs.Frame.{sent_word}
-use borrow.Author.Rules.{rules}
 use Rattle.frame_bytes.proofs.sent_word.Goals as goal
 
 pub returns-then-i-lt-PLAIN : goal.returns-then-i-lt-PLAIN

@@ -1,6 +1,6 @@
 -- `frame_bytes::size_of_frame` meets its contract. The loop's invariant: the next message goes to `at`.
 -- Assumes nothing.
-use Prim.Native.Nat.{ℕ, ◌+◌, ◌≤◌, ◌-◌}
+use Prim.Native.Nat.{ℕ, ◌+◌, ◌-◌}
 use native.Mathlib.Omega.{arith}
 use native.Mathlib.Nat.{le_antisymm}
 use mathlib.Core.Path.{◌≡◌, ◌∙◌, ap}

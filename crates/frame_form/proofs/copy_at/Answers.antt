@@ -1,8 +1,6 @@
 -- `frame_form::copy_at` meets its contract: word by word.
 -- Assumes nothing.
-use mathlib.Core.Path.{refl}
 use Rattle.frame.specs.Frame.{copy_at}
-use borrow.Author.Rules.{rules}
 use Rattle.frame_form.proofs.copy_at.Goals as goal
 
 pub returns : goal.returns

@@ -4,7 +4,6 @@ use mathlib.Core.Path.{◌∙◌, sym}
 use borrow.Author.Tests.{lt-ltb, le-ltb}
 use Rattle.loops.proofs.BoolLaws.{pick_true, pick_false}
 use Rattle.frame.specs.Frame.{entry_at}
-use borrow.Author.Rules.{rules}
 use Rattle.frame_form.proofs.entry_at.Goals as goal
 
 pub returns-then-x-depots : goal.returns-then-x-depots

@@ -6,7 +6,6 @@ use mathlib.Core.Path.{◌∙◌, sym, ap}
 use lib.Dec.{leb}
 use lib.ListN.{length}
 use Rattle.frame_form.proofs.FormLaws.{head_short, head_other, head_none, head_many, head_last}
-use borrow.Author.Rules.{rules}
 use Rattle.frame_form.proofs.head_is_right.Goals as goal
 
 pub returns-then-f-lt-FRONT : goal.returns-then-f-lt-FRONT

@@ -4,7 +4,6 @@ use native.Mathlib.Omega.{arith}
 use Rattle.loops.proofs.BoolLaws.{test_passed, test_failed}
 use Rattle.frame.proofs.DecodeLaws.{Head, head_says}
 use Rattle.frame_form.proofs.FormLaws.{formed_head, formed_not}
-use borrow.Author.Rules.{rules}
 use Rattle.frame_form.proofs.is_formed.Goals as goal
 use Rattle.frame_form.proofs.is_formed.Lts as lts
 use Rattle.frame_form.proofs.is_formed.Tie as tie

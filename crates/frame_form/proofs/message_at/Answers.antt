@@ -1,16 +1,13 @@
 -- `frame_form::message_at` meets its contract: by the kind.
 -- Assumes nothing.
 use native.Mathlib.Omega.{arith}
-use mathlib.Core.Path.{◌≡◌, ◌∙◌, sym, ap}
-use mathlib.Core.List.{[]}
+use mathlib.Core.Path.{◌∙◌, sym, ap}
 use lib.ListN.{get_or}
 use borrow.Author.Tests.{ne_eqb}
 use Rattle.loops.proofs.BoolLaws.{pick_false}
-use Rattle.book.specs.Layout.{beat_kind}
 use Rattle.links.specs.Send.{beat}
 use Rattle.frame.specs.Frame.{message_at}
 use Rattle.frame.proofs.MessageLaws.{by_beat, size_beat, size_other}
-use borrow.Author.Rules.{rules}
 use Rattle.frame_form.proofs.message_at.Goals as goal
 
 pub word_at-stamp-requires : goal.word_at-stamp-requires

@@ -1,13 +1,12 @@
 -- `frame_form::message_is_right` meets its contract: each test, in its order.
 -- Assumes nothing.
-use Prim.Native.Nat.{◌+◌, ◌≤◌, ◌<◌}
+use Prim.Native.Nat.{◌+◌, ◌≤◌}
 use native.Mathlib.Omega.{arith}
 use mathlib.Core.Path.{◌≡◌, ◌∙◌, sym, ap}
 use lib.ListN.{length, get_or}
 use Rattle.fit.specs.Fit.{message_fit}
 use Rattle.frame.specs.Frame.{size_of}
 use Rattle.frame_form.proofs.FormLaws.{right_not, right_past, right_strange, right_cut, right_fit}
-use borrow.Author.Rules.{rules}
 use Rattle.frame_form.proofs.message_is_right.Goals as goal
 use Rattle.frame_form.proofs.message_is_right.Lts as lts
 use Rattle.frame_form.proofs.message_is_right.Tie as tie

@@ -1,16 +1,14 @@
 -- `frame_form::messages_are_right` meets its contract. The loop's invariant: the messages passed are right, and the next begins at `at`.
 -- Assumes nothing.
-use Prim.Native.Nat.{◌+◌, ◌≤◌, ◌-◌}
+use Prim.Native.Nat.{◌-◌}
 use native.Mathlib.Omega.{arith}
 use native.Mathlib.Nat.{le_antisymm}
 use mathlib.Core.Path.{◌≡◌, ◌∙◌, sym, ap}
-use mathlib.Core.Bool.{Bool, true, ◌&&◌}
-use lib.Dec.{eqb}
-use lib.ListN.{length, get_or}
-use Rattle.loops.specs.Loops.{every}
+use mathlib.Core.Bool.{true}
+use lib.ListN.{get_or}
 use Rattle.loops.proofs.BoolLaws.{and_stop, test_passed, test_failed}
 use Rattle.loops.proofs.LoopLaws.{every_none, every_more, every_stop}
-use Rattle.frame.specs.Frame.{size_of, count_in, start_in, message_right, messages_right}
+use Rattle.frame.specs.Frame.{size_of, start_in, message_right}
 use Rattle.frame.proofs.DecodeLaws.{At, message_says}
 use Rattle.frame_form.proofs.FormLaws.{start_none, start_more, right_ends, all_right}
 use borrow.Author.Rules.{rules}

@@ -1,11 +1,11 @@
 -- `frame_reader::hand_out` meets its contract. The loop's invariant: the words of the messages passed stand in the buffer, and the next begins at `at`.
 -- Assumes nothing.
-use Rattle.std.proofs.Common.{◌≡◌, ℕ, ◌+◌, ◌-◌, ◌*◌, ◌≤◌, List, length, get_or, sym, refl, ap, ◌∙◌, le_antisymm, zero-add, arith, rules}
+use Rattle.std.proofs.Common.{◌≡◌, ℕ, ◌+◌, ◌-◌, ◌*◌, List, length, get_or, sym, refl, ap, ◌∙◌, le_antisymm, zero-add, arith, rules}
 use Rattle.book.specs.Words.{put}
 use Rattle.book.proofs.WordsLaws.{length_put}
 use Rattle.wire.specs.Wire.{joined}
 use Rattle.wire.proofs.WireLaws.{joined_long, put_none, put_run}
-use Rattle.frame.specs.Frame.{size_of, count_in, start_in, message_at, body_in}
+use Rattle.frame.specs.Frame.{size_of, start_in, message_at, body_in}
 use Rattle.frame.proofs.Theorems.{message_ten}
 use Rattle.frame_form.specs.Asks.{There}
 use Rattle.frame_form.proofs.FormLaws.{start_none, start_more, there_at}

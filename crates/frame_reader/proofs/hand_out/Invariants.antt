@@ -1,14 +1,9 @@
 -- What the loop keeps, and what falls. Answers.antt has the idea.
 -- Assumes nothing.
-use Rattle.std.proofs.Common.{◌≡◌, ℕ, ◌+◌, ◌-◌, ◌*◌, ◌≤◌, List, length, get_or, sym, refl, ap, ◌∙◌, le_antisymm, zero-add, arith, rules}
+use Rattle.std.proofs.Common.{◌≡◌, ◌-◌, ◌≤◌, length}
 use Rattle.book.specs.Words.{put}
-use Rattle.book.proofs.WordsLaws.{length_put}
 use Rattle.wire.specs.Wire.{joined}
-use Rattle.wire.proofs.WireLaws.{joined_long, put_none, put_run}
-use Rattle.frame.specs.Frame.{size_of, count_in, start_in, message_at, body_in}
-use Rattle.frame.proofs.Theorems.{message_ten}
-use Rattle.frame_form.specs.Asks.{There}
-use Rattle.frame_form.proofs.FormLaws.{start_none, start_more, there_at}
+use Rattle.frame.specs.Frame.{start_in, message_at}
 use Rattle.frame_reader.proofs.hand_out.Given as goal
 
 abbrev pub invariant-loop-i : goal.invariant-loop-i

@@ -1,6 +1,6 @@
 -- `frame_reader::read_at` meets its contract: another depot, then the frame.
 -- Assumes nothing.
-use Rattle.std.proofs.Common.{◌≡◌, ℕ, List, length, sym, ◌∙◌, subst, rules}
+use Rattle.std.proofs.Common.{length, sym, ◌∙◌, subst}
 use Rattle.paper.specs.Calls.{first}
 use Rattle.paper.specs.Answers.{number_of}
 use Rattle.paper.specs.declared.answer.Refusal.TheVariants.{SameDepot}

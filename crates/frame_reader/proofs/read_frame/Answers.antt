@@ -1,13 +1,12 @@
 -- `frame_reader::read_frame` meets its contract: the shared checks, then the rest.
 -- Assumes nothing.
-use Rattle.std.proofs.Common.{◌<◌, sym, ◌∙◌, subst, rules}
+use Rattle.std.proofs.Common.{◌<◌, sym, ◌∙◌, subst}
 use mathlib.Core.Path.{subst₃}
 use Rattle.book.specs.Layout.{counts_of}
 use Rattle.book.specs.declared.numbers.Depot.{Depot}
 use Rattle.book.specs.declared.numbers.Shelf.{Shelf}
 use Rattle.register.proofs.CallLaws.{bad_link, good_link, not_done}
 use Rattle.register.proofs.TakeTable.{link_open}
-use Rattle.frame.specs.declared.FrameRefusal.TheVariants.{Link}
 use Rattle.frame.specs.Promises.{frame_number, WasRead}
 use Rattle.frame.proofs.PromiseLaws.{refused_as, reader_bad}
 use Rattle.frame_reader.proofs.read_frame.Goals as goal

@@ -2,7 +2,6 @@
 -- Assumes nothing.
 use mathlib.Core.Path.{◌∙◌, sym, ap}
 use Rattle.frame.specs.Promises.{frame_number}
-use borrow.Author.Rules.{rules}
 use Rattle.frame_told.proofs.frame_number.Goals as goal
 
 pub returns-in-Link : goal.returns-in-Link

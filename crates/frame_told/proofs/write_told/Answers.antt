@@ -3,7 +3,6 @@
 use native.Mathlib.Omega.{arith}
 use mathlib.Core.Path.{refl}
 use Rattle.frame_told.proofs.ToldLaws.{told_no_room, told_refused, told_done, done_number, size_small}
-use borrow.Author.Rules.{rules}
 use Rattle.frame_told.proofs.write_told.Goals as goal
 
 pub returns-then-told-lt-TOLD_WORDS : goal.returns-then-told-lt-TOLD_WORDS

@@ -1,14 +1,13 @@
 -- `frame_writer::is_count` meets its contract: each test, in its order.
 -- Assumes nothing.
-use mathlib.Core.Path.{◌≡◌, ◌∙◌, sym, ap, refl}
-use mathlib.Core.Bool.{Bool, not}
+use mathlib.Core.Path.{◌≡◌, ◌∙◌, sym, ap}
+use mathlib.Core.Bool.{not}
 use lib.Dec.{leb, ltb}
 use borrow.Author.Tests.{eq-eqb, ne_eqb, le-leb, lt-leb, lt-ltb, le-ltb}
 use mathlib.Core.Logic.{⊎_elim}
 use Prim.Native.Nat.{ℕ, ◌≤◌, ◌<◌}
 use Rattle.loops.proofs.BoolLaws.{or_next, or_stop, le_or_lt}
 use Rattle.frame.specs.Promises.{bad_count}
-use borrow.Author.Rules.{rules}
 use Rattle.frame_writer.proofs.is_count.Goals as goal
 
 not_under : (a b : ℕ) → leb a b ≡ not (ltb b a)

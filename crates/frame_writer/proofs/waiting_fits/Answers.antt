@@ -2,8 +2,7 @@
 -- Assumes nothing.
 use Prim.Native.Nat.{ℕ, ◌+◌, ◌-◌, ◌≤◌}
 use native.Mathlib.Omega.{arith}
-use mathlib.Core.Path.{◌≡◌, ◌∙◌, sym, ap₂}
-use mathlib.Core.Bool.{true}
+use mathlib.Core.Path.{◌∙◌, sym, ap₂}
 use lib.Dec.{leb}
 use borrow.Author.Tests.{leb-true}
 use Rattle.loops.specs.Loops.{every}
@@ -11,7 +10,6 @@ use Rattle.loops.proofs.BoolLaws.{and_left, and_right, and_next, and_stop, test_
 use Rattle.book.specs.Layout.{held, taken, slot}
 use Rattle.fit.specs.Fit.{head_fit, message_fit}
 use Rattle.named.specs.Named.{waiting_fit}
-use borrow.Author.Rules.{rules}
 use Rattle.frame_writer.proofs.waiting_fits.Goals as goal
 use Rattle.frame_writer.proofs.waiting_fits.Lts as lts
 use Rattle.frame_writer.proofs.waiting_fits.Tie as tie

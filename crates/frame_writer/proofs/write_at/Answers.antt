@@ -5,9 +5,7 @@ use native.Mathlib.Nat.{lt_of_lt_of_le}
 use native.Mathlib.Omega.{arith}
 use mathlib.Core.Path.{◌≡◌, ◌∙◌, sym, ap, ap₂, subst}
 use mathlib.Core.Bool.{true, false}
-use mathlib.Core.List.{List}
-use lib.ListN.{length}
-use borrow.Author.Tests.{not-false, eqb-false, ltb-false}
+use borrow.Author.Tests.{not-false}
 use Rattle.loops.proofs.BoolLaws.{test_passed, test_failed, not_passed}
 use Rattle.book.specs.Words.{put}
 use Rattle.book.specs.declared.parts.Counts.{Counts}
@@ -22,7 +20,6 @@ use Rattle.frame.specs.Frame.{frame_size}
 use Rattle.frame.specs.Promises.{frame_number, Ready, route_in, untaken, bad_count}
 use Rattle.frame.proofs.PromiseLaws.{refused_as, done_as, route_ready, writer_same, writer_book, writer_empty, writer_count, writer_room, writer_good}
 use Rattle.frame_writer.proofs.WriterLaws.{size_same, frame_same, count_fits}
-use borrow.Author.Rules.{rules}
 use Rattle.frame_writer.proofs.write_at.Goals as goal
 use Rattle.frame_writer.proofs.write_at.Lts as lts
 use Rattle.frame_writer.proofs.write_at.Tie as tie

@@ -7,10 +7,8 @@ use Rattle.book.specs.declared.numbers.Depot.{Depot}
 use Rattle.book.specs.declared.numbers.Shelf.{Shelf}
 use Rattle.register.proofs.CallLaws.{bad_link, good_link, not_done}
 use Rattle.register.proofs.TakeTable.{link_open}
-use Rattle.frame.specs.declared.FrameRefusal.TheVariants.{Link}
 use Rattle.frame.specs.Promises.{frame_number, Written}
 use Rattle.frame.proofs.PromiseLaws.{refused_as, writer_bad}
-use borrow.Author.Rules.{rules}
 use Rattle.frame_writer.proofs.write_frame.Goals as goal
 
 pub write_at-requires : goal.write_at-requires

@@ -10,7 +10,6 @@ use Rattle.room.proofs.RoomLaws.{with_room, no_room_law}
 use Rattle.who.specs.declared.WhoAnswer.{WhoAnswer}
 use Rattle.who.specs.Who.{Told, refused, has, paper_who, who_told, WhoHas}
 use Rattle.holders.specs.Told.{told_number, told_out}
-use borrow.Author.Rules.{rules}
 use Rattle.holders.proofs.tell_who.Goals as goal
 
 -- what an answer, known by its case, is on paper

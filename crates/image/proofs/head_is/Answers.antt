@@ -1,7 +1,6 @@
 -- `image::head_is` meets its contract.
 -- Assumes nothing.
 use mathlib.Core.Path.{◌∙◌, ap₂}
-use borrow.Author.Rules.{rules}
 use Rattle.image.specs.Image.{same}
 use Rattle.image.proofs.head_is.Goals as goal
 

@@ -1,7 +1,6 @@
 -- `image::head_of` meets its contract.
 -- Assumes nothing.
 use mathlib.Core.Path.{refl}
-use borrow.Author.Rules.{rules}
 use Rattle.image.specs.Image.{image_head}
 use Rattle.image.proofs.head_of.Goals as goal
 

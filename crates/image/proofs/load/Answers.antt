@@ -1,6 +1,5 @@
 -- `image::load` meets its contract: both lengths are right, and the rest is `load_judged`.
 -- Assumes nothing.
-use borrow.Author.Rules.{rules}
 use Rattle.image.proofs.ImageLaws.{load_other, load_short}
 use Rattle.image.proofs.load.Goals as goal
 

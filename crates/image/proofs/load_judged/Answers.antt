@@ -1,7 +1,6 @@
 -- `image::load_judged` meets its contract: the header is that of the words behind it, these are fit, and only then are they the book's.
 -- Assumes nothing.
 use Rattle.loops.proofs.BoolLaws.{test_passed, test_failed}
-use borrow.Author.Rules.{rules}
 use Rattle.image.proofs.ImageLaws.{book_read, load_wrong, load_unfit, load_done}
 use Rattle.image.proofs.load_judged.Goals as goal
 

@@ -1,8 +1,7 @@
 -- `image::same_words` meets its contract. The loop's invariant: the words passed are the same.
 -- Assumes nothing.
-use Prim.Native.Nat.{◌≤◌, ◌-◌}
-use mathlib.Core.Path.{◌≡◌, refl}
-use lib.ListN.{length, take}
+use Prim.Native.Nat.{◌-◌}
+use mathlib.Core.Path.{refl}
 use borrow.Author.Rules.{rules}
 use Rattle.image.proofs.ImageLaws.{take_next, same_all, same_not}
 use Rattle.image.proofs.same_words.Goals as goal

@@ -1,10 +1,8 @@
 -- What the loop keeps, and what falls. Answers.antt has the idea.
 -- Assumes nothing.
 use Prim.Native.Nat.{◌≤◌, ◌-◌}
-use mathlib.Core.Path.{◌≡◌, refl}
+use mathlib.Core.Path.{◌≡◌}
 use lib.ListN.{length, take}
-use borrow.Author.Rules.{rules}
-use Rattle.image.proofs.ImageLaws.{take_next, same_all, same_not}
 use Rattle.image.proofs.same_words.Given as goal
 
 abbrev pub invariant-loop-i : goal.invariant-loop-i

@@ -2,7 +2,6 @@
 -- Assumes nothing.
 use native.Mathlib.Omega.{arith}
 use Rattle.loops.proofs.BoolLaws.{test_passed, test_failed}
-use borrow.Author.Rules.{rules}
 use Rattle.image.proofs.ImageLaws.{fit_long, save_unfit, save_short, save_done}
 use Rattle.image.proofs.save.Goals as goal
 

@@ -1,6 +1,5 @@
 -- `judged::audited` meets its contract: the number of what the auditor finds.
 -- Assumes nothing.
-use borrow.Author.Rules.{rules}
 use Rattle.judged.proofs.NumberLaws.{entry_few}
 use Rattle.judged.proofs.audited.Goals as goal
 

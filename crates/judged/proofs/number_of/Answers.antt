@@ -3,7 +3,6 @@
 use Prim.Native.Nat.{◌<◌}
 use native.Mathlib.Omega.{arith}
 use mathlib.Core.Path.{refl, subst}
-use borrow.Author.Rules.{rules}
 use Rattle.auditor.specs.declared.finding.Finding.{Finding}
 use Rattle.judged.specs.Number.{answer_of, entry_of, number_of}
 use Rattle.judged.proofs.number_of.Goals as goal

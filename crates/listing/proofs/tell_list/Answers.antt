@@ -6,7 +6,6 @@ use Rattle.paper.specs.declared.answer.Answer as plain
 use Rattle.paper.specs.Answers.{paper_listed}
 use Rattle.room.proofs.RoomLaws.{with_room, no_room_law}
 use Rattle.listing.proofs.ListLaws.{list_book_law, list_number_law, done_words, refused_words}
-use borrow.Author.Rules.{rules}
 use Rattle.listing.proofs.tell_list.Goals as goal
 
 pub returns-then-out-lt-LIST_WORDS : goal.returns-then-out-lt-LIST_WORDS

@@ -1,9 +1,9 @@
 -- `lowest::lowest_seen` meets its contract. The loop's invariant: each entry is the lowest stamp of the shelves passed.
 -- Assumes nothing.
-use Prim.Native.Nat.{◌≤◌, ◌-◌}
+use Prim.Native.Nat.{◌-◌}
 use native.Mathlib.Nat.{add-zero}
-use mathlib.Core.Path.{◌≡◌, refl, sym}
-use Rattle.links.specs.Send.{lowest, lowest_seen}
+use mathlib.Core.Path.{refl, sym}
+use Rattle.links.specs.Send.{lowest_seen}
 use Rattle.lowest.proofs.LowestCode.{lowest_none, lowest_more, lowest_told, four_same}
 use borrow.Author.Rules.{rules}
 use Rattle.lowest.proofs.lowest_seen.Goals as goal

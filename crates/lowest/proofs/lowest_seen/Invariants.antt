@@ -1,11 +1,8 @@
 -- What the loop keeps, and what falls. Answers.antt has the idea.
 -- Assumes nothing.
 use Prim.Native.Nat.{◌≤◌, ◌-◌}
-use native.Mathlib.Nat.{add-zero}
-use mathlib.Core.Path.{◌≡◌, refl, sym}
-use Rattle.links.specs.Send.{lowest, lowest_seen}
-use Rattle.lowest.proofs.LowestCode.{lowest_none, lowest_more, lowest_told, four_same}
-use borrow.Author.Rules.{rules}
+use mathlib.Core.Path.{◌≡◌}
+use Rattle.links.specs.Send.{lowest}
 use Rattle.lowest.proofs.lowest_seen.Given as goal
 
 abbrev pub invariant-loop-s : goal.invariant-loop-s

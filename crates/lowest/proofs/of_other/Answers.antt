@@ -2,7 +2,6 @@
 -- Assumes nothing.
 use mathlib.Core.Path.{◌∙◌, sym}
 use Rattle.lowest.proofs.LowestCode.{told_past, told_own, told_other}
-use borrow.Author.Rules.{rules}
 use Rattle.lowest.proofs.of_other.Goals as goal
 
 pub returns-then-n-x : goal.returns-then-n-x

@@ -2,7 +2,6 @@
 -- Assumes nothing.
 use mathlib.Core.Path.{◌∙◌, sym}
 use Rattle.register.proofs.WriteLaws.{kept_said, kept_greater, kept_dropped}
-use borrow.Author.Rules.{rules}
 use Rattle.making.proofs.keep_record.Goals as goal
 
 pub returns-then-is_above : goal.returns-then-is_above

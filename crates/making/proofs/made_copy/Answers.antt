@@ -1,12 +1,11 @@
 -- `making::made_copy` meets its contract: the fields of the version, in their places.
 -- Assumes nothing.
 use mathlib.Core.Path.{◌∙◌}
-use mathlib.Core.List.{[], ◌∷◌}
+use mathlib.Core.List.{◌∷◌}
 use lib.ListN.{get_or}
 use Rattle.book.specs.Layout.{copy_kind}
 use Rattle.card.specs.Card.{word_of}
 use Rattle.register.specs.Answers.{cut}
-use borrow.Author.Rules.{rules}
 use Rattle.making.proofs.made_copy.Goals as goal
 
 pub returns : goal.returns

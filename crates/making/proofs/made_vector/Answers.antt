@@ -4,7 +4,6 @@ use mathlib.Core.Path.{◌∙◌, ap}
 use native.Mathlib.Omega.{arith}
 use lib.ListN.{length, length-set}
 use Rattle.register.proofs.WriteLaws.{cut_set}
-use borrow.Author.Rules.{rules}
 use Rattle.making.proofs.made_vector.Goals as goal
 
 pub cut_vector-requires : goal.cut_vector-requires

@@ -1,9 +1,8 @@
 -- `making::message_of` meets its contract: the fields of the version in their places, the card as its two words.
 -- Assumes nothing.
-use mathlib.Core.List.{[], ◌∷◌}
+use mathlib.Core.List.{◌∷◌}
 use lib.ListN.{get_or}
 use Rattle.book.specs.Layout.{copy_kind}
-use borrow.Author.Rules.{rules}
 use Rattle.making.proofs.message_of.Goals as goal
 
 pub returns : goal.returns

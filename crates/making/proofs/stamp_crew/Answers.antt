@@ -2,7 +2,6 @@
 -- Assumes nothing.
 use Prim.Native.Nat.{◌+◌}
 use lib.ListN.{set}
-use borrow.Author.Rules.{rules}
 use Rattle.making.proofs.stamp_crew.Goals as goal
 
 pub returns : goal.returns

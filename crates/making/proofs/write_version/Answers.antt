@@ -12,7 +12,6 @@ use Rattle.paper.specs.declared.answer.Payload.{Payload}
 use Rattle.register.specs.Calls.{payload_from, made_record, written_crew}
 use Rattle.register.proofs.MadeLaws.{length_made, made_bearing}
 use Rattle.register.proofs.WriteLaws.{copy_made, record_made, crew_made, current_made, store_made, sent_made, answer_made, may_done, may_based, may_ready, may_free}
-use borrow.Author.Rules.{rules}
 use Rattle.making.proofs.write_version.Goals as goal
 use Rattle.making.proofs.write_version.Lts as lts
 use Rattle.making.proofs.write_version.Tie as tie

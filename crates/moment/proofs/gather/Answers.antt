@@ -1,14 +1,9 @@
 -- `moment::gather` meets its contract: the loop's invariant is that the vector is that of the turns so far.
 -- Assumes nothing.
-use Prim.Native.Nat.{ℕ, ◌≤◌, ◌-◌}
+use Prim.Native.Nat.{ℕ, ◌-◌}
 use native.Mathlib.Nat.{le_antisymm}
-use mathlib.Core.Path.{◌≡◌, ◌∙◌, refl, sym, ap}
-use mathlib.Core.List.{List}
-use lib.ListN.{length}
-use Rattle.loops.specs.Loops.{times}
+use mathlib.Core.Path.{◌∙◌, refl, ap}
 use Rattle.loops.proofs.LoopLaws.{times_none, times_more}
-use Rattle.order.specs.Vector.{merged_at}
-use Rattle.book.specs.Layout.{stable}
 use Rattle.register.specs.Calls.{gathered_from}
 use borrow.Author.Rules.{rules}
 use Rattle.moment.proofs.gather.Goals as goal

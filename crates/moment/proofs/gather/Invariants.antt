@@ -1,16 +1,12 @@
 -- What the loop keeps, and what falls. Answers.antt has the idea.
 -- Assumes nothing.
 use Prim.Native.Nat.{ℕ, ◌≤◌, ◌-◌}
-use native.Mathlib.Nat.{le_antisymm}
-use mathlib.Core.Path.{◌≡◌, ◌∙◌, refl, sym, ap}
+use mathlib.Core.Path.{◌≡◌}
 use mathlib.Core.List.{List}
 use lib.ListN.{length}
 use Rattle.loops.specs.Loops.{times}
-use Rattle.loops.proofs.LoopLaws.{times_none, times_more}
 use Rattle.order.specs.Vector.{merged_at}
 use Rattle.book.specs.Layout.{stable}
-use Rattle.register.specs.Calls.{gathered_from}
-use borrow.Author.Rules.{rules}
 use Rattle.moment.proofs.gather.Given as goal
 
 abbrev pub turn : ℕ → ℕ → List ℕ → ℕ → List ℕ → List ℕ

@@ -1,7 +1,6 @@
 -- `moment::gather_one` meets its contract: the maximum with the part that is the stable vector.
 -- Assumes nothing.
 use Rattle.moment.proofs.MomentLaws.{merged_part}
-use borrow.Author.Rules.{rules}
 use Rattle.moment.proofs.gather_one.Goals as goal
 
 pub returns : goal.returns

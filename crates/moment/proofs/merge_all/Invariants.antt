@@ -1,18 +1,13 @@
 -- What the loop keeps, and what falls. Answers.antt has the idea.
 -- Assumes nothing.
-use Prim.Native.Nat.{ℕ, ◌≤◌, ◌<◌, ◌-◌}
-use native.Mathlib.Nat.{le_antisymm, lt_of_lt_of_le}
-use mathlib.Core.Path.{◌≡◌, ◌∙◌, refl, sym, ap, subst}
+use Prim.Native.Nat.{ℕ, ◌≤◌, ◌-◌}
+use mathlib.Core.Path.{◌≡◌}
 use mathlib.Core.List.{List}
 use lib.ListN.{length, get_or}
 use Rattle.loops.specs.Loops.{times}
-use Rattle.loops.proofs.LoopLaws.{times_none, times_more}
 use Rattle.order.specs.Vector.{merged_at}
 use Rattle.order.specs.Record.{vector_of}
 use Rattle.book.specs.Layout.{crew_at, stored}
-use Rattle.named.proofs.NamedLaws.{below_at}
-use Rattle.register.specs.Calls.{merged_all}
-use borrow.Author.Rules.{rules}
 use Rattle.moment.proofs.merge_all.Given as goal
 
 -- one turn, with bearing k

@@ -1,7 +1,6 @@
 -- `moment::merge_one` meets its contract: the record's vector is copied out, then merged.
 -- Assumes nothing.
 use Rattle.moment.proofs.MomentLaws.{merged_found}
-use borrow.Author.Rules.{rules}
 use Rattle.moment.proofs.merge_one.Goals as goal
 
 pub returns : goal.returns

@@ -1,10 +1,8 @@
 -- `moment::settle_all` meets its contract: the loop's invariant is that the words are those of the turns so far; a shelf whose turn comes is ready as it was.
 -- Assumes nothing.
-use Prim.Native.Nat.{ℕ, ◌≤◌, ◌-◌}
+use Prim.Native.Nat.{ℕ, ◌-◌}
 use native.Mathlib.Nat.{le_antisymm}
-use mathlib.Core.Path.{◌≡◌, ◌∙◌, refl, sym, ap, subst}
-use lib.ListN.{length}
-use Rattle.loops.specs.Loops.{times}
+use mathlib.Core.Path.{◌∙◌, refl, sym, ap, subst}
 use Rattle.loops.proofs.LoopLaws.{times_none, times_more}
 use Rattle.order.specs.Vector.{vector_in}
 use Rattle.shelf.specs.Asks.{Ready}

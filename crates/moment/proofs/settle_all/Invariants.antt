@@ -1,16 +1,11 @@
 -- What the loop keeps, and what falls. Answers.antt has the idea.
 -- Assumes nothing.
-use Prim.Native.Nat.{ℕ, ◌≤◌, ◌-◌}
-use native.Mathlib.Nat.{le_antisymm}
-use mathlib.Core.Path.{◌≡◌, ◌∙◌, refl, sym, ap, subst}
+use Prim.Native.Nat.{◌≤◌, ◌-◌}
+use mathlib.Core.Path.{◌≡◌}
 use lib.ListN.{length}
 use Rattle.loops.specs.Loops.{times}
-use Rattle.loops.proofs.LoopLaws.{times_none, times_more}
 use Rattle.order.specs.Vector.{vector_in}
-use Rattle.shelf.specs.Asks.{Ready}
-use Rattle.register.specs.Calls.{settled_all}
-use Rattle.register.proofs.PageReady.{page_turn, page_ready}
-use borrow.Author.Rules.{rules}
+use Rattle.register.proofs.PageReady.{page_turn}
 use Rattle.moment.proofs.settle_all.Given as goal
 
 abbrev pub invariant-loop-s : goal.invariant-loop-s

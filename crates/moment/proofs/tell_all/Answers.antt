@@ -1,15 +1,15 @@
 -- `moment::tell_all` meets its contract: the loop's invariant is that the words tell of the bearings so far.
 -- Assumes nothing.
-use Prim.Native.Nat.{ℕ, ◌≤◌, ◌<◌, ◌*◌, ◌-◌}
+use Prim.Native.Nat.{ℕ, ◌<◌, ◌*◌, ◌-◌}
 use native.Mathlib.Nat.{lt_of_lt_of_le}
 use native.Mathlib.Omega.{arith}
-use mathlib.Core.Path.{◌≡◌, ◌∙◌, refl, sym, ap, subst}
-use mathlib.Core.List.{List, map}
-use lib.ListN.{length, take, length-replicate}
+use mathlib.Core.Path.{◌∙◌, refl, sym, ap, subst}
+use mathlib.Core.List.{List}
+use lib.ListN.{length, length-replicate}
 use Rattle.book.specs.Words.{put}
 use Rattle.book.specs.Layout.{stored}
 use Rattle.named.proofs.NamedLaws.{below_at}
-use Rattle.paper.specs.Answers.{told_words, page_words}
+use Rattle.paper.specs.Answers.{told_words}
 use Rattle.register.specs.Answers.{told}
 use Rattle.register.proofs.ListTable.{list_size_in}
 use Rattle.moment.proofs.MomentLaws.{page_none, page_more, page_done}

@@ -7,7 +7,6 @@ use Rattle.book.specs.Words.{put}
 use Rattle.book.proofs.WordsLaws.{part_from}
 use Rattle.paper.specs.Answers.{told_words}
 use Rattle.register.specs.Answers.{told}
-use borrow.Author.Rules.{rules}
 use Rattle.moment.proofs.tell_one.Goals as goal
 
 pub returns : goal.returns

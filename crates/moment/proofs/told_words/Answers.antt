@@ -2,7 +2,7 @@
 -- Assumes nothing.
 use Prim.Native.Nat.{ℕ}
 use mathlib.Core.Path.{◌≡◌, ◌∙◌, sym, ap}
-use mathlib.Core.List.{List, [], ◌∷◌}
+use mathlib.Core.List.{List, ◌∷◌}
 use lib.ListN.{get_or}
 use Rattle.order.specs.Record.{value_of, diameter_of, width_of, vector_of}
 use Rattle.order.specs.Vector.{zeros}
@@ -10,7 +10,6 @@ use Rattle.order.proofs.RecordLaws.{zeros_part}
 use Rattle.register.specs.Answers.{cut}
 use Rattle.register.proofs.HomeLaws.{cut_part}
 use Rattle.moment.proofs.MomentLaws.{words_unwritten, words_value}
-use borrow.Author.Rules.{rules}
 use Rattle.moment.proofs.told_words.Goals as goal
 use Rattle.moment.proofs.told_words.Lts as lts
 use Rattle.moment.proofs.told_words.Tie as tie

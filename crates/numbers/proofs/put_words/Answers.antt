@@ -1,12 +1,10 @@
 -- `numbers::put_words` meets its contract. The loop's invariant: the bytes of the words passed stand in the buffer.
 -- Assumes nothing.
-use Prim.Native.Nat.{◌≤◌, ◌-◌}
-use mathlib.Core.Path.{◌≡◌, ◌∙◌, refl, ap}
-use lib.ListN.{length, take}
+use Prim.Native.Nat.{◌-◌}
+use mathlib.Core.Path.{◌∙◌, refl, ap}
+use lib.ListN.{length}
 use borrow.Author.Rules.{rules}
-use Rattle.book.specs.Words.{put}
 use Rattle.book.proofs.WordsLaws.{length_put}
-use Rattle.numbers.specs.Numbers.{bytes_of}
 use Rattle.numbers.proofs.OneByOne.{bytes_none, bytes_step, bytes_all}
 use Rattle.numbers.proofs.put_words.Goals as goal
 

@@ -1,13 +1,10 @@
 -- What the loop keeps, and what falls. Answers.antt has the idea.
 -- Assumes nothing.
 use Prim.Native.Nat.{◌≤◌, ◌-◌}
-use mathlib.Core.Path.{◌≡◌, ◌∙◌, refl, ap}
+use mathlib.Core.Path.{◌≡◌}
 use lib.ListN.{length, take}
-use borrow.Author.Rules.{rules}
 use Rattle.book.specs.Words.{put}
-use Rattle.book.proofs.WordsLaws.{length_put}
 use Rattle.numbers.specs.Numbers.{bytes_of}
-use Rattle.numbers.proofs.OneByOne.{bytes_none, bytes_step, bytes_all}
 use Rattle.numbers.proofs.put_words.Given as goal
 
 abbrev pub invariant-loop-i : goal.invariant-loop-i

@@ -1,11 +1,9 @@
 -- `numbers::read_words` meets its contract. The loop's invariant: the words passed are those of the bytes.
 -- Assumes nothing.
-use Prim.Native.Nat.{◌≤◌, ◌-◌}
-use mathlib.Core.Path.{◌≡◌, ◌∙◌, refl}
-use lib.ListN.{length, length-set}
+use Prim.Native.Nat.{◌-◌}
+use mathlib.Core.Path.{refl}
+use lib.ListN.{length-set}
 use borrow.Author.Rules.{rules}
-use Rattle.book.specs.Words.{put}
-use Rattle.numbers.specs.Numbers.{words_at}
 use Rattle.numbers.proofs.OneByOne.{words_none, words_step, words_all}
 use Rattle.numbers.proofs.read_words.Goals as goal
 

@@ -1,10 +1,9 @@
 -- `page::is_list` meets its contract: the two ends.
 -- Assumes nothing.
-use mathlib.Core.Path.{◌∙◌, sym}
+use mathlib.Core.Path.{sym}
 use borrow.Author.Tests.{le-leb, lt-leb}
 use Rattle.loops.proofs.BoolLaws.{and_next, and_stop}
 use Rattle.named.specs.Named.{is_list}
-use borrow.Author.Rules.{rules}
 use Rattle.page.proofs.is_list.Goals as goal
 
 pub returns-then-count-lt1 : goal.returns-then-count-lt1

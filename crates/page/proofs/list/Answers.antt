@@ -16,7 +16,6 @@ use Rattle.register.proofs.CallLaws.{after_refused}
 use Rattle.register.proofs.KindLaws.{good_crew, bad_crew}
 use Rattle.register.proofs.ListTable.{list_base, list_crew, list_size, list_key}
 use Rattle.page.proofs.PageLaws.{list_refused}
-use borrow.Author.Rules.{rules}
 use Rattle.page.proofs.list.Goals as goal
 use Rattle.page.proofs.list.Lts as lts
 use Rattle.page.proofs.list.Tie as tie

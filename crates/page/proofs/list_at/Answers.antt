@@ -18,7 +18,6 @@ use Rattle.paper.specs.Answers.{number_of}
 use Rattle.register.proofs.CallLaws.{by_done, after_refused, after_done}
 use Rattle.register.proofs.ListTable.{list_book_law, list_good, list_size_in}
 use Rattle.page.proofs.PageLaws.{list_refused, list_told, parts_listed, shelves_ready, page_book_law, page_told_law, page_merged}
-use borrow.Author.Rules.{rules}
 use Rattle.page.proofs.list_at.Goals as goal
 use Rattle.page.proofs.list_at.Lts as lts
 use Rattle.page.proofs.list_at.Tie as tie

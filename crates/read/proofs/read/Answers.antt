@@ -9,7 +9,6 @@ use Rattle.register.specs.Promises.{Read}
 use Rattle.register.proofs.CallLaws.{bad_asked, good_asked, not_done, read_refused, after_refused}
 use Rattle.register.proofs.SendTable.{read_bad}
 use Rattle.register.proofs.Numbers.{asked_done}
-use borrow.Author.Rules.{rules}
 use Rattle.read.proofs.read.Goals as goal
 
 pub read_at-requires : goal.read_at-requires

@@ -23,7 +23,6 @@ use Rattle.register.proofs.CallLaws.{by_done, after_refused, after_done, read_re
 use Rattle.register.proofs.FitReady.{shelf_in}
 use Rattle.register.proofs.SendTable.{read_book_law, read_good}
 use Rattle.register.proofs.HomeLaws.{home_done, home_ready, parts_home, told_holds, record_read, told_done, merged_done}
-use borrow.Author.Rules.{rules}
 use Rattle.read.proofs.read_at.Goals as goal
 use Rattle.read.proofs.read_at.Lts as lts
 use Rattle.read.proofs.read_at.Tie as tie

@@ -12,7 +12,6 @@ use Rattle.paper.specs.Calls.{reads, read_value, read_unwritten}
 use Rattle.paper.specs.Answers.{paper_found, paper_read}
 use Rattle.register.specs.Answers.{cut, payload_of, told}
 use Rattle.register.proofs.HomeLaws.{cut_part}
-use borrow.Author.Rules.{rules}
 use Rattle.read.proofs.tell.Goals as goal
 use Rattle.read.proofs.tell.Lts as lts
 use Rattle.read.proofs.tell.Tie as tie

@@ -5,7 +5,6 @@ use mathlib.Core.Path.{◌≡◌, ◌∙◌, ap}
 use lib.ListN.{length, length-set}
 use Rattle.book.proofs.WordsLaws.{length_put}
 use Rattle.record_writer.proofs.WritingLaws.{counted_numbers}
-use borrow.Author.Rules.{rules}
 use Rattle.record_writer.proofs.put_counted.Goals as goal
 
 pub bounds-out-at-2 : goal.bounds-out-at-2

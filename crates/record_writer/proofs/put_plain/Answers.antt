@@ -4,7 +4,6 @@ use mathlib.Core.Path.{◌∙◌, ap}
 use lib.ListN.{length}
 use Rattle.book.proofs.WordsLaws.{length_put}
 use Rattle.record_writer.proofs.WritingLaws.{plain_bytes}
-use borrow.Author.Rules.{rules}
 use Rattle.record_writer.proofs.put_plain.Goals as goal
 
 pub returns : goal.returns

@@ -1,9 +1,7 @@
 -- `record_writer::size_of` meets its contract: the bytes of the head, and four for each number.
 -- Assumes nothing.
 use native.Mathlib.Omega.{arith}
-use Rattle.journal.specs.Record.{form_of, head_by, head_size, kind_in, numbers_of}
 use Rattle.record_writer.proofs.WritingLaws.{long_as}
-use borrow.Author.Rules.{rules}
 use Rattle.record_writer.proofs.size_of.Goals as goal
 
 pub returns-in-Setup : goal.returns-in-Setup

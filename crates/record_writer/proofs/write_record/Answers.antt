@@ -3,7 +3,6 @@
 use native.Mathlib.Omega.{arith}
 use Rattle.journal.specs.Record.{form_of, head_by, head_size, kind_in, numbers_of, count_by, head_of, record_bytes}
 use Rattle.record_writer.proofs.WritingLaws.{long_as, count_as, written_as}
-use borrow.Author.Rules.{rules}
 use Rattle.record_writer.proofs.write_record.Goals as goal
 
 pub put_counted-requires : goal.put_counted-requires

@@ -3,7 +3,6 @@
 use mathlib.Core.Path.{sym, ◌∙◌}
 use Rattle.calls.specs.Performed.{asked}
 use Rattle.recorder.proofs.RecorderLaws.{told_number_law, appended_none, appended_done, record_asks}
-use borrow.Author.Rules.{rules}
 use Rattle.recorder.proofs.record_at.Goals as goal
 
 pub returns-then-number-ne0 : goal.returns-then-number-ne0

@@ -6,7 +6,6 @@ use lib.ListN.{length}
 use Rattle.paper.specs.Answers.{number_of, paper}
 use Rattle.calls.specs.Performed.{asked}
 use Rattle.recorder.proofs.RecorderLaws.{record_room_law, recording_room, recording_none}
-use borrow.Author.Rules.{rules}
 use Rattle.recorder.proofs.recorded.Goals as goal
 
 pub returns-then-out-size : goal.returns-then-out-size

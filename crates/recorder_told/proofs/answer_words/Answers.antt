@@ -6,7 +6,6 @@ use Rattle.request.specs.Replies.{paper_outcome}
 use Rattle.telling.specs.Told.{words_of}
 use Rattle.telling.proofs.ToldLaws.{after_four}
 use Rattle.recorder_told.proofs.ToldLaws.{words_as, no_words, vector_words, page_words_law}
-use borrow.Author.Rules.{rules}
 use Rattle.recorder_told.proofs.answer_words.Goals as goal
 
 pub returns-in-Done : goal.returns-in-Done

@@ -1,7 +1,6 @@
 -- `recorder_told::has_numbers` meets its contract: by the kind's form.
 -- Assumes nothing.
 use Rattle.recorder_told.proofs.ToldLaws.{kind_counted, kind_plain}
-use borrow.Author.Rules.{rules}
 use Rattle.recorder_told.proofs.has_numbers.Goals as goal
 
 pub returns-then-shape : goal.returns-then-shape

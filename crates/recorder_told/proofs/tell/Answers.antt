@@ -8,7 +8,6 @@ use Prim.Native.Nat.{ℕ}
 use Rattle.book.specs.Words.{put}
 use Rattle.book.proofs.WordsLaws.{length_put}
 use Rattle.recorder_told.proofs.ToldLaws.{length_answer}
-use borrow.Author.Rules.{rules}
 use Rattle.recorder_told.proofs.tell.Goals as goal
 
 pub write_words-requires : goal.write_words-requires

@@ -4,7 +4,6 @@ use mathlib.Core.Path.{◌≡◌, ◌∙◌, ap}
 use Rattle.calls.specs.Performed.{asked}
 use Rattle.journal.specs.Record.{request_by}
 use Rattle.recorder_told.proofs.ToldLaws.{recorded_as, made_refused, size_few, made_done}
-use borrow.Author.Rules.{rules}
 use Rattle.recorder_told.proofs.tell_call.Goals as goal
 use Rattle.recorder_told.proofs.tell_call.Lts as lts
 use Rattle.recorder_told.proofs.tell_call.Tie as tie

@@ -5,7 +5,6 @@ use Rattle.loops.proofs.BoolLaws.{test_passed, test_failed}
 use Rattle.recorder_told.specs.Told.{left_by}
 use Rattle.room.proofs.RoomLaws.{with_room, no_room_law}
 use Rattle.recorder_told.proofs.ToldLaws.{kind_own, no_kind, no_numbers, the_request}
-use borrow.Author.Rules.{rules}
 use Rattle.recorder_told.proofs.tell_recorded.Goals as goal
 
 pub returns-then-out-lt-RECORDED_WORDS : goal.returns-then-out-lt-RECORDED_WORDS

@@ -1,12 +1,12 @@
 -- `recovery::bring_forward` meets its contract. The loop's invariant: the bytes passed are copied; no byte is written before it is read.
 -- Assumes nothing.
-use Prim.Native.Nat.{ℕ, ◌+◌, ◌≤◌, ◌-◌}
+use Prim.Native.Nat.{ℕ, ◌+◌, ◌-◌}
 use native.Mathlib.Nat.{le_antisymm, zero-add}
 use native.Mathlib.Omega.{arith}
-use mathlib.Core.Path.{◌≡◌, refl, sym, ◌∙◌, ap}
+use mathlib.Core.Path.{refl, sym, ◌∙◌, ap}
 use mathlib.Core.Logic.{inl}
-use lib.ListN.{length, get_or, set, length-set}
-use Rattle.book.specs.Words.{part, put}
+use lib.ListN.{get_or, set, length-set}
+use Rattle.book.specs.Words.{put}
 use Rattle.book.proofs.WordsLaws.{put_none, part_none, copy_step}
 use borrow.Author.Rules.{rules}
 use Rattle.recovery.proofs.bring_forward.Goals as goal

@@ -1,14 +1,9 @@
 -- What the loop keeps, and what falls. Answers.antt has the idea.
 -- Assumes nothing.
-use Prim.Native.Nat.{ℕ, ◌+◌, ◌≤◌, ◌-◌}
-use native.Mathlib.Nat.{le_antisymm, zero-add}
-use native.Mathlib.Omega.{arith}
-use mathlib.Core.Path.{◌≡◌, refl, sym, ◌∙◌, ap}
-use mathlib.Core.Logic.{inl}
-use lib.ListN.{length, get_or, set, length-set}
+use Prim.Native.Nat.{◌≤◌, ◌-◌}
+use mathlib.Core.Path.{◌≡◌}
+use lib.ListN.{length}
 use Rattle.book.specs.Words.{part, put}
-use Rattle.book.proofs.WordsLaws.{put_none, part_none, copy_step}
-use borrow.Author.Rules.{rules}
 use Rattle.recovery.proofs.bring_forward.Given as goal
 
 abbrev pub invariant-loop-i : goal.invariant-loop-i

@@ -5,7 +5,6 @@ use mathlib.Core.Path.{◌∙◌, sym, ap}
 use lib.Seq.{length-take-le}
 use Rattle.book.specs.Words.{put}
 use Rattle.recovery.proofs.RecoveryLaws.{counted_in, behind_counted}
-use borrow.Author.Rules.{rules}
 use Rattle.recovery.proofs.recover_buffer.Goals as goal
 
 pub slice_bounds-recover-end-2 : goal.slice_bounds-recover-end-2

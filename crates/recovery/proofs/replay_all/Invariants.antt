@@ -1,11 +1,9 @@
 -- What the loop keeps, and what falls. Answers.antt has the idea.
 -- Assumes nothing.
 use Prim.Native.Nat.{◌-◌, ◌≤◌}
-use native.Mathlib.Omega.{arith}
-use mathlib.Core.Path.{◌≡◌, refl, ◌∙◌}
+use mathlib.Core.Path.{◌≡◌}
 use lib.ListN.{length}
-use Rattle.recovery.proofs.RecoveryLaws.{Far, far_start, far_more, far_stop, far_end, left_some, left_turn}
-use borrow.Author.Rules.{rules}
+use Rattle.recovery.proofs.RecoveryLaws.{Far}
 use Rattle.recovery.proofs.replay_all.Given as goal
 
 abbrev pub invariant-loop-at : goal.invariant-loop-at

@@ -5,7 +5,6 @@ use Rattle.book.specs.Words.{put}
 use Rattle.room.proofs.RoomLaws.{no_room_law}
 use Rattle.recovery_told.specs.Told.{left_by}
 use Rattle.recovery_told.proofs.ToldLaws.{recovered_left}
-use borrow.Author.Rules.{rules}
 use Rattle.recovery_told.proofs.tell_recovered.Goals as goal
 
 pub returns-then-out-lt-RECOVERED_COUNTS : goal.returns-then-out-lt-RECOVERED_COUNTS

@@ -10,7 +10,6 @@ use Rattle.register.specs.Promises.{Refresh}
 use Rattle.register.proofs.CallLaws.{bad_place, good_place, not_done, by_refusal, after_refused}
 use Rattle.register.proofs.Numbers.{place_done}
 use Rattle.register.proofs.SendTable.{refresh_bad}
-use borrow.Author.Rules.{rules}
 use Rattle.refresh.proofs.refresh.Goals as goal
 
 pub refresh_at-requires : goal.refresh_at-requires

@@ -23,7 +23,6 @@ use Rattle.register.proofs.CallLaws.{by_refusal, by_done, after_refused, after_d
 use Rattle.register.proofs.FitReady.{show_ready}
 use Rattle.register.proofs.HomeLaws.{settled_four}
 use Rattle.register.proofs.SendTable.{refresh_book_law, refresh_good}
-use borrow.Author.Rules.{rules}
 use Rattle.refresh.proofs.refresh_at.Goals as goal
 use Rattle.refresh.proofs.refresh_at.Lts as lts
 use Rattle.refresh.proofs.refresh_at.Tie as tie

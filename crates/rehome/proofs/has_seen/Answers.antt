@@ -8,7 +8,6 @@ use Rattle.book.specs.Layout.{crew_vector}
 use Rattle.links.specs.Send.{lowest_seen}
 use Rattle.register.specs.Table.{arrived}
 use Rattle.register.proofs.MoveTable.{covered_four}
-use borrow.Author.Rules.{rules}
 use Rattle.rehome.proofs.has_seen.Goals as goal
 
 pub returns : goal.returns

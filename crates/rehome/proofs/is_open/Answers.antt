@@ -3,7 +3,6 @@
 use mathlib.Core.Path.{◌∙◌, sym}
 use borrow.Author.Tests.{eq-eqb, ne_eqb}
 use Rattle.loops.proofs.BoolLaws.{or_stop, or_next}
-use borrow.Author.Rules.{rules}
 use Rattle.rehome.proofs.is_open.Goals as goal
 
 pub returns-then-index-wide : goal.returns-then-index-wide

@@ -14,7 +14,6 @@ use Rattle.paper.specs.Answers.{number_of, paper}
 use Rattle.register.specs.Calls.{move_book}
 use Rattle.register.proofs.CallLaws.{by_refusal, by_done, after_refused, after_done}
 use Rattle.register.proofs.MoveTable.{move_book_law, move_not_here, move_good}
-use borrow.Author.Rules.{rules}
 use Rattle.rehome.proofs.move_at.Goals as goal
 use Rattle.rehome.proofs.move_at.Lts as lts
 use Rattle.rehome.proofs.move_at.Tie as tie

@@ -16,7 +16,6 @@ use Rattle.register.specs.Promises.{Move}
 use Rattle.register.proofs.CallLaws.{by_refusal, after_refused}
 use Rattle.register.proofs.KindLaws.{good_crew, bad_crew, good_depot, bad_depot}
 use Rattle.register.proofs.MoveTable.{move_base, move_crew, move_depot}
-use borrow.Author.Rules.{rules}
 use Rattle.rehome.proofs.move_crew.Goals as goal
 use Rattle.rehome.proofs.move_crew.Lts as lts
 use Rattle.rehome.proofs.move_crew.Tie as tie

@@ -1,6 +1,5 @@
 -- `rehome::set_home` meets its contract: the store at the home's place.
 -- Assumes nothing.
-use borrow.Author.Rules.{rules}
 use Rattle.rehome.proofs.set_home.Goals as goal
 
 pub returns : goal.returns

@@ -3,7 +3,6 @@
 use native.Mathlib.Omega.{arith}
 use mathlib.Core.Path.{sym}
 use lib.ListN.{get_or-eq_default}
-use borrow.Author.Rules.{rules}
 use Rattle.replayer.proofs.count_in.Goals as goal
 
 pub returns-then-bytes-lt2 : goal.returns-then-bytes-lt2

@@ -2,7 +2,6 @@
 -- Assumes nothing.
 use native.Mathlib.Omega.{arith}
 use Rattle.replayer.proofs.TurnLaws.{own_few, own_counted, extent_counted, extent_plain}
-use borrow.Author.Rules.{rules}
 use Rattle.replayer.proofs.extent_of.Goals as goal
 
 pub overflow_add-result : goal.overflow_add-result

@@ -8,7 +8,6 @@ use lib.Seq.{length-take-le}
 use Rattle.upkeep.specs.Requests.{number_at, book_after}
 use Rattle.replayer.specs.Turn.{no_kind, too_few, a_record}
 use Rattle.replayer.proofs.TurnLaws.{names_nothing, names_kind, size_is, head_small, read_count, read_own, asks}
-use borrow.Author.Rules.{rules}
 use Rattle.replayer.proofs.next_record.Goals as goal
 
 pub returns-in_default : goal.returns-in_default

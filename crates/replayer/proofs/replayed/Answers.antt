@@ -3,7 +3,6 @@
 use mathlib.Core.Path.{◌∙◌, ap}
 use Rattle.calls.specs.Performed.{asked}
 use Rattle.replayer.proofs.TurnLaws.{replays}
-use borrow.Author.Rules.{rules}
 use Rattle.replayer.proofs.replayed.Goals as goal
 
 pub returns : goal.returns

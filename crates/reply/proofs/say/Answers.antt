@@ -9,7 +9,6 @@ use Rattle.line.specs.Answers.{number_answer}
 use Rattle.line.proofs.PrintLaws.{wrote_same}
 use Rattle.reply.specs.Printed.{told_bytes, printed}
 use Rattle.reply.proofs.RoomLaws.{no_list, printed_room, carries_few, said_as, list_count}
-use borrow.Author.Rules.{rules}
 use Rattle.reply.proofs.say.Goals as goal
 
 pub answer_number-requires : goal.answer_number-requires

@@ -4,7 +4,6 @@ use mathlib.Core.Path.{sym, ◌∙◌}
 use lib.Seq.{length-take-le}
 use Rattle.line.proofs.PrintLaws.{wrote_start}
 use Rattle.events.proofs.SayLaws.{answer_room_law}
-use borrow.Author.Rules.{rules}
 use Rattle.script.proofs.is_answered.Goals as goal
 
 pub slice_bounds-said-end : goal.slice_bounds-said-end

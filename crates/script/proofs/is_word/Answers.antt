@@ -3,7 +3,6 @@
 use native.Mathlib.Omega.{arith}
 use mathlib.Core.Bool.{false≢true}
 use borrow.Author.Tests.{eqb-true, eq-eqb}
-use borrow.Author.Rules.{rules}
 use Rattle.script.proofs.is_word.Goals as goal
 
 pub returns-then-at-book : goal.returns-then-at-book

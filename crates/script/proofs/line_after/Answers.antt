@@ -1,7 +1,6 @@
 -- `script::line_after` meets its contract: a line that ends before the text does has its line feed.
 -- Assumes nothing.
 use Rattle.script.proofs.LineLaws.{end_fed, end_last}
-use borrow.Author.Rules.{rules}
 use Rattle.script.proofs.line_after.Goals as goal
 
 pub returns-then-end-s : goal.returns-then-end-s

@@ -1,12 +1,9 @@
 -- `script::line_end` meets its contract. The loop's invariant: the line feed from here on is the one from the start on.
 -- Assumes nothing.
-use Prim.Native.Nat.{◌+◌, ◌-◌}
+use Prim.Native.Nat.{◌-◌}
 use native.Mathlib.Omega.{arith}
-use mathlib.Core.Path.{◌≡◌, refl}
-use lib.ListN.{length, drop}
-use Rattle.script.specs.Script.{line_size}
+use mathlib.Core.Path.{refl}
 use Rattle.script.proofs.LineLaws.{size_end, size_feed, size_more}
-use borrow.Author.Rules.{rules}
 use Rattle.script.proofs.line_end.Goals as goal
 
 pub loop-i-init : goal.loop-i-init

@@ -1,13 +1,10 @@
 -- `script::repeated` meets its contract. The loop's invariant: the runs so far left this book, and all of them passed exactly if the test so far says so.
 -- Assumes nothing.
-use Prim.Native.Nat.{◌-◌, ◌≤◌}
+use Prim.Native.Nat.{◌-◌}
 use native.Mathlib.Omega.{arith}
-use mathlib.Core.Path.{◌≡◌, refl, ◌∙◌}
+use mathlib.Core.Path.{refl, ◌∙◌}
 use mathlib.Core.Logic.{⊎_elim}
-use lib.ListN.{length}
-use Rattle.script.specs.Script.{fed_lines}
-use Rattle.script.proofs.ScriptLaws.{exactly_taken, exactly_left, Rerun, rerun_start, rerun_more, rerun_done}
-use borrow.Author.Rules.{rules}
+use Rattle.script.proofs.ScriptLaws.{exactly_taken, exactly_left, rerun_start, rerun_more, rerun_done}
 use Rattle.script.proofs.repeated.Goals as goal
 
 pub loop-i-init : goal.loop-i-init

@@ -1,13 +1,10 @@
 -- What the loop keeps, and what falls. Answers.antt has the idea.
 -- Assumes nothing.
 use Prim.Native.Nat.{◌-◌, ◌≤◌}
-use native.Mathlib.Omega.{arith}
-use mathlib.Core.Path.{◌≡◌, refl, ◌∙◌}
-use mathlib.Core.Logic.{⊎_elim}
+use mathlib.Core.Path.{◌≡◌}
 use lib.ListN.{length}
 use Rattle.script.specs.Script.{fed_lines}
-use Rattle.script.proofs.ScriptLaws.{exactly_taken, exactly_left, Rerun, rerun_start, rerun_more, rerun_done}
-use borrow.Author.Rules.{rules}
+use Rattle.script.proofs.ScriptLaws.{Rerun}
 use Rattle.script.proofs.repeated.Given as goal
 
 abbrev pub invariant-loop-i : goal.invariant-loop-i

@@ -2,11 +2,9 @@
 -- Assumes nothing.
 use Prim.Native.Nat.{◌-◌}
 use native.Mathlib.Omega.{arith}
-use mathlib.Core.Path.{◌≡◌, refl, ◌∙◌}
-use lib.ListN.{length}
+use mathlib.Core.Path.{refl, ◌∙◌}
 use Rattle.script.proofs.LineLaws.{Turn, turn_at}
-use Rattle.script.proofs.ScriptLaws.{exactly_taken, exactly_left, Far, far_start, far_more, far_done}
-use borrow.Author.Rules.{rules}
+use Rattle.script.proofs.ScriptLaws.{exactly_taken, exactly_left, far_start, far_more, far_done}
 use Rattle.script.proofs.runs.Goals as goal
 use Rattle.script.proofs.runs.Lts as lts
 use Rattle.script.proofs.runs.Tie as tie

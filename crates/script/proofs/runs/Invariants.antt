@@ -1,12 +1,9 @@
 -- What the loop keeps, and what falls. Answers.antt has the idea.
 -- Assumes nothing.
 use Prim.Native.Nat.{◌-◌}
-use native.Mathlib.Omega.{arith}
-use mathlib.Core.Path.{◌≡◌, refl, ◌∙◌}
+use mathlib.Core.Path.{◌≡◌}
 use lib.ListN.{length}
-use Rattle.script.proofs.LineLaws.{Turn, turn_at}
-use Rattle.script.proofs.ScriptLaws.{exactly_taken, exactly_left, Far, far_start, far_more, far_done}
-use borrow.Author.Rules.{rules}
+use Rattle.script.proofs.ScriptLaws.{Far}
 use Rattle.script.proofs.runs.Given as goal
 
 abbrev pub invariant-loop-at : goal.invariant-loop-at

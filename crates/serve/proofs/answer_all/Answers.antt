@@ -2,11 +2,8 @@
 -- Assumes nothing.
 use Prim.Native.Nat.{◌<◌}
 use native.Mathlib.Omega.{arith}
-use mathlib.Core.Path.{◌≡◌, refl, ◌∙◌}
-use lib.ListN.{length}
-use borrow.Author.Rules.{rules}
+use mathlib.Core.Path.{refl, ◌∙◌}
 use borrow.Author.Tests.{ltb-true}
-use Rattle.stream.specs.Stream.{Served}
 use Rattle.stream.proofs.Theorems.{served_more}
 use Rattle.serve.proofs.answer_all.Goals as goal
 

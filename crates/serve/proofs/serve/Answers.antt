@@ -1,7 +1,6 @@
 -- `serve::serve` meets its contract: it begins with a book of zeros.
 -- Assumes nothing.
 use Rattle.stream.proofs.Theorems.{began_zeros}
-use borrow.Author.Rules.{rules}
 use Rattle.serve.proofs.serve.Goals as goal
 
 pub serve_on-requires : goal.serve_on-requires

@@ -2,7 +2,6 @@
 -- Assumes nothing.
 use mathlib.Core.Path.{sym}
 use lib.Seq.{length-take-le}
-use borrow.Author.Rules.{rules}
 use Rattle.serve.proofs.turn.Goals as goal
 
 pub slice_bounds-keep_records-end-2 : goal.slice_bounds-keep_records-end-2

@@ -3,12 +3,10 @@
 use Prim.Native.Nat.{◌≤◌, ◌<◌, ◌-◌}
 use native.Mathlib.Nat.{le_antisymm}
 use native.Mathlib.Omega.{arith}
-use mathlib.Core.Path.{◌≡◌, sym}
+use mathlib.Core.Path.{sym}
 use mathlib.Core.Bool.{true}
-use lib.Dec.{ltb}
 use lib.ListN.{get_or}
 use borrow.Author.Tests.{lt-ltb, le-ltb}
-use Rattle.loops.specs.Loops.{every}
 use Rattle.loops.proofs.LoopLaws.{every_none, every_more, every_stop}
 use borrow.Author.Rules.{rules}
 use Rattle.setup.proofs.are_depots.Goals as goal

@@ -1,16 +1,11 @@
 -- What the loop keeps, and what falls. Answers.antt has the idea.
 -- Assumes nothing.
-use Prim.Native.Nat.{◌≤◌, ◌<◌, ◌-◌}
-use native.Mathlib.Nat.{le_antisymm}
-use native.Mathlib.Omega.{arith}
-use mathlib.Core.Path.{◌≡◌, sym}
+use Prim.Native.Nat.{◌≤◌, ◌-◌}
+use mathlib.Core.Path.{◌≡◌}
 use mathlib.Core.Bool.{true}
 use lib.Dec.{ltb}
 use lib.ListN.{get_or}
-use borrow.Author.Tests.{lt-ltb, le-ltb}
 use Rattle.loops.specs.Loops.{every}
-use Rattle.loops.proofs.LoopLaws.{every_none, every_more, every_stop}
-use borrow.Author.Rules.{rules}
 use Rattle.setup.proofs.are_depots.Given as goal
 
 abbrev pub invariant-loop-i : goal.invariant-loop-i

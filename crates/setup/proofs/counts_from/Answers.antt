@@ -1,6 +1,5 @@
 -- `register::calls::setup::counts_from` meets its contract: each count is its word.
 -- Assumes nothing.
-use borrow.Author.Rules.{rules}
 use Rattle.setup.proofs.counts_from.Goals as goal
 
 pub returns : goal.returns

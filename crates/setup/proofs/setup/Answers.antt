@@ -13,7 +13,6 @@ use Rattle.fit.proofs.FitLaws.{counts_within}
 use Rattle.paper.specs.declared.answer.Refusal.TheVariants.{BadBook, BadDepot, BadCounts}
 use Rattle.paper.specs.Answers.{number_of}
 use Rattle.register.proofs.SetupLaws.{setup_book, setup_counts, setup_crews, setup_home, setup_good, setup_refused, setup_done}
-use borrow.Author.Rules.{rules}
 use Rattle.setup.proofs.setup.Goals as goal
 use Rattle.setup.proofs.setup.Lts as lts
 use Rattle.setup.proofs.setup.Tie as tie

@@ -1,7 +1,6 @@
 -- `register::calls::setup::write_fresh` meets its contract: clear, write the counts, write the homes.
 -- Assumes nothing.
 use Rattle.register.proofs.SetupLaws.{fresh_words}
-use borrow.Author.Rules.{rules}
 use Rattle.setup.proofs.write_fresh.Goals as goal
 
 pub returns : goal.returns

@@ -6,7 +6,6 @@ use mathlib.Core.Path.{◌≡◌, sym}
 use mathlib.Core.List.{List}
 use lib.ListN.{length, take, set, length-set}
 use lib.Seq.{length-take-le}
-use borrow.Author.Rules.{rules}
 use Rattle.snapshot.proofs.name_beside.Goals as goal
 
 -- the first n bytes, and one more that is written behind them

@@ -2,14 +2,9 @@
 -- Assumes nothing.
 use Prim.Native.Nat.{◌-◌}
 use native.Mathlib.Omega.{arith}
-use mathlib.Core.Path.{◌≡◌, refl, ◌∙◌}
-use lib.ListN.{length}
+use mathlib.Core.Path.{refl, ◌∙◌}
 use Rattle.line.proofs.PrintLaws.{wrote_length}
-use Rattle.reply.specs.Printed.{answer_room}
-use Rattle.events.specs.Answering.{answer_to, record_to, record_room}
-use Rattle.stream.specs.Stream.{line_in}
-use Rattle.stream.proofs.StreamLaws.{answers_most, records_most, Fed, Given, fed_start, given_start, given_room, fed_step, given_step, fed_words, fed_line, given_all}
-use borrow.Author.Rules.{rules}
+use Rattle.stream.proofs.StreamLaws.{answers_most, records_most, fed_start, given_start, given_room, fed_step, given_step, fed_words, fed_line, given_all}
 use Rattle.stream.proofs.feed.Goals as goal
 
 pub loop-i-init : goal.loop-i-init

@@ -6,7 +6,6 @@ use lib.Seq.{length-take-le}
 use Rattle.line.proofs.PrintLaws.{wrote_same, wrote_nothing}
 use Rattle.stream.specs.Stream.{line_in}
 use Rattle.stream.proofs.StreamLaws.{line_ends, book_ends, gives_ends, line_grows, line_full, book_stays, gives_nothing, held_length, held_none, held_more}
-use borrow.Author.Rules.{rules}
 use Rattle.stream.proofs.feed_byte.Goals as goal
 
 pub slice_bounds-keep_line-end : goal.slice_bounds-keep_line-end

@@ -6,7 +6,6 @@ use lib.Seq.{length-take-le}
 use Rattle.line.proofs.PrintLaws.{wrote_same, wrote_nothing}
 use Rattle.stream.specs.Stream.{line_in}
 use Rattle.stream.proofs.StreamLaws.{last_none, last_gives_none, last_some, last_gives, held_length, held_none, held_empty, held_some}
-use borrow.Author.Rules.{rules}
 use Rattle.stream.proofs.finish.Goals as goal
 
 pub returns-then-kept-eq0 : goal.returns-then-kept-eq0

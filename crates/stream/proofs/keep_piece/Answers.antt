@@ -5,7 +5,6 @@ use mathlib.Core.Path.{sym, ◌∙◌}
 use Rattle.line.proofs.PrintLaws.{wrote_same}
 use Rattle.events.specs.Answering.{answer_to, record_to}
 use Rattle.stream.proofs.StreamLaws.{answers_most, records_most, piece_room, piece_end, piece_gives_end, piece_some, piece_gives}
-use borrow.Author.Rules.{rules}
 use Rattle.stream.proofs.keep_piece.Goals as goal
 
 pub finish-requires : goal.finish-requires

@@ -10,7 +10,6 @@ use Rattle.register.specs.Promises.{Take}
 use Rattle.register.proofs.CallLaws.{bad_link, good_link, not_done, by_refusal, after_refused}
 use Rattle.register.proofs.TakeTable.{link_open}
 use Rattle.register.proofs.SendTable.{take_bad}
-use borrow.Author.Rules.{rules}
 use Rattle.take.proofs.take.Goals as goal
 
 pub take_at-requires : goal.take_at-requires

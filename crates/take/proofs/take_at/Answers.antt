@@ -16,7 +16,6 @@ use Rattle.paper.specs.Answers.{number_of, paper}
 use Rattle.register.specs.Calls.{take_book}
 use Rattle.register.proofs.CallLaws.{by_refusal, by_done, after_refused, after_done}
 use Rattle.register.proofs.SendTable.{take_self, take_parts_law, take_book_law, take_same, take_empty, take_good}
-use borrow.Author.Rules.{rules}
 use Rattle.take.proofs.take_at.Goals as goal
 use Rattle.take.proofs.take_at.Lts as lts
 use Rattle.take.proofs.take_at.Tie as tie

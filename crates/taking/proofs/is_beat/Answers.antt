@@ -5,7 +5,6 @@ use mathlib.Core.Path.{ap}
 use lib.Dec.{eqb}
 use Rattle.book.specs.Layout.{beat_kind}
 use Rattle.taking.proofs.TakeCode.{kind_place}
-use borrow.Author.Rules.{rules}
 use Rattle.taking.proofs.is_beat.Goals as goal
 
 pub returns : goal.returns

@@ -3,7 +3,6 @@
 use mathlib.Core.Path.{◌∙◌, sym}
 use lib.ListN.{set}
 use Rattle.loops.proofs.BoolLaws.{pick_true, pick_false}
-use borrow.Author.Rules.{rules}
 use Rattle.taking.proofs.move_on.Goals as goal
 
 pub returns-then-beat : goal.returns-then-beat

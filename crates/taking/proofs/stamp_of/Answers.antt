@@ -1,7 +1,6 @@
 -- `taking::stamp_of` meets its contract: the word that holds the stamp, by the kind.
 -- Assumes nothing.
 use Rattle.taking.proofs.TakeCode.{beat_stamp, copy_stamp}
-use borrow.Author.Rules.{rules}
 use Rattle.taking.proofs.stamp_of.Goals as goal
 
 pub returns-then-is_beat : goal.returns-then-is_beat

@@ -6,7 +6,6 @@ use Rattle.paper.specs.Answers.{paper_found, entries_in, padded}
 use Rattle.room.proofs.RoomLaws.{filled_none}
 use Rattle.telling.specs.Told.{words_of}
 use Rattle.telling.proofs.ToldLaws.{told_as, found_as, vector_told, after_four}
-use borrow.Author.Rules.{rules}
 use Rattle.telling.proofs.tell_found.Goals as goal
 
 pub returns-in-Value : goal.returns-in-Value

@@ -2,13 +2,12 @@
 -- Assumes nothing.
 use Prim.Native.Nat.{ℕ}
 use mathlib.Core.Path.{sym, ◌∙◌, ap, ap₂}
-use mathlib.Core.List.{[], ◌∷◌}
+use mathlib.Core.List.{◌∷◌}
 use Rattle.card.specs.declared.GramsAnswer.{GramsAnswer}
 use Rattle.card.specs.Card.{grams_number}
 use Rattle.room.specs.Room.{filled}
 use Rattle.room.proofs.RoomLaws.{with_room, no_room_law, filled_none}
 use Rattle.telling.specs.Told.{grams_out}
-use borrow.Author.Rules.{rules}
 use Rattle.telling.proofs.tell_grams.Goals as goal
 
 pub returns-then-out-lt-GRAMS_WORDS : goal.returns-then-out-lt-GRAMS_WORDS

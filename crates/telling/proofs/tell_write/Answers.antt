@@ -4,7 +4,6 @@ use mathlib.Core.Path.{◌∙◌}
 use Rattle.upkeep.specs.Requests.{did_write}
 use Rattle.room.proofs.RoomLaws.{with_room, no_room_law}
 use Rattle.telling.proofs.CallLaws.{by_call, told_by}
-use borrow.Author.Rules.{rules}
 use Rattle.telling.proofs.tell_write.Goals as goal
 
 pub returns-then-out-lt-WRITE_WORDS : goal.returns-then-out-lt-WRITE_WORDS

@@ -6,7 +6,6 @@ use Rattle.paper.specs.Answers.{paper_write}
 use Rattle.room.proofs.RoomLaws.{filled_none}
 use Rattle.telling.specs.Told.{words_of}
 use Rattle.telling.proofs.ToldLaws.{told_as}
-use borrow.Author.Rules.{rules}
 use Rattle.telling.proofs.tell_written.Goals as goal
 
 pub returns-in-Current : goal.returns-in-Current

@@ -10,7 +10,6 @@ use Rattle.register.specs.Promises.{Tick}
 use Rattle.register.proofs.CallLaws.{bad_place, good_place, not_done, by_refusal, after_refused}
 use Rattle.register.proofs.Numbers.{place_done}
 use Rattle.register.proofs.SendTable.{tick_bad}
-use borrow.Author.Rules.{rules}
 use Rattle.tick.proofs.tick.Goals as goal
 
 pub tick_at-requires : goal.tick_at-requires

@@ -18,7 +18,6 @@ use Rattle.register.specs.Calls.{tick_book}
 use Rattle.register.proofs.CallLaws.{by_refusal, by_done, after_refused, after_done}
 use Rattle.register.proofs.FitReady.{roomy_free}
 use Rattle.register.proofs.SendTable.{tick_book_law, tick_end, tick_full, tick_good}
-use borrow.Author.Rules.{rules}
 use Rattle.tick.proofs.tick_at.Goals as goal
 use Rattle.tick.proofs.tick_at.Lts as lts
 use Rattle.tick.proofs.tick_at.Tie as tie

@@ -8,7 +8,6 @@ use Rattle.order.specs.Order.{above}
 use Rattle.order.specs.Record.{rank_of}
 use Rattle.book.proofs.WordsLaws.{part_from}
 use Rattle.who.specs.Who.{has_it}
-use borrow.Author.Rules.{rules}
 use Rattle.who.proofs.has_it.Goals as goal
 
 pub returns : goal.returns

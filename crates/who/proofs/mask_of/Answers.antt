@@ -1,9 +1,8 @@
 -- `who::mask_of` meets its contract: a loop whose invariant is that the mask is that of the depots passed.
 -- Assumes nothing.
-use Prim.Native.Nat.{ℕ, ◌^◌, ◌≤◌, ◌<◌, ◌-◌}
+use Prim.Native.Nat.{ℕ, ◌^◌, ◌<◌, ◌-◌}
 use native.Mathlib.Nat.{le_antisymm}
-use mathlib.Core.Path.{◌≡◌, ◌∙◌, sym, ap, subst}
-use Rattle.who.specs.Bits.{mask_of}
+use mathlib.Core.Path.{◌∙◌, sym, ap, subst}
 use Rattle.who.specs.Who.{has_it}
 use Rattle.who.proofs.MaskLaws.{mask_none, mask_more, mask_lt}
 use borrow.Author.Rules.{rules}

@@ -1,12 +1,9 @@
 -- What the loop keeps, and what falls. Answers.antt has the idea.
 -- Assumes nothing.
-use Prim.Native.Nat.{ℕ, ◌^◌, ◌≤◌, ◌<◌, ◌-◌}
-use native.Mathlib.Nat.{le_antisymm}
-use mathlib.Core.Path.{◌≡◌, ◌∙◌, sym, ap, subst}
+use Prim.Native.Nat.{◌≤◌, ◌-◌}
+use mathlib.Core.Path.{◌≡◌}
 use Rattle.who.specs.Bits.{mask_of}
 use Rattle.who.specs.Who.{has_it}
-use Rattle.who.proofs.MaskLaws.{mask_none, mask_more, mask_lt}
-use borrow.Author.Rules.{rules}
 use Rattle.who.proofs.mask_of.Given as goal
 
 abbrev pub invariant-loop-x : goal.invariant-loop-x

@@ -1,11 +1,10 @@
 -- `who::stores_fit` meets its contract: a loop whose invariant is that what was passed is fit.
 -- Assumes nothing.
-use Prim.Native.Nat.{◌≤◌, ◌-◌}
+use Prim.Native.Nat.{◌-◌}
 use native.Mathlib.Nat.{le_antisymm}
 use mathlib.Core.Path.{◌≡◌, ◌∙◌, refl, sym, ap}
 use mathlib.Core.Bool.{true}
 use Prim.Native.Nat.{ℕ}
-use Rattle.loops.specs.Loops.{every}
 use Rattle.loops.proofs.BoolLaws.{test_passed, test_failed}
 use Rattle.loops.proofs.LoopLaws.{every_none, every_more, every_stop}
 use Rattle.fit.specs.Fit.{stored_fit}

@@ -1,16 +1,10 @@
 -- What the loop keeps, and what falls. Answers.antt has the idea.
 -- Assumes nothing.
 use Prim.Native.Nat.{◌≤◌, ◌-◌}
-use native.Mathlib.Nat.{le_antisymm}
-use mathlib.Core.Path.{◌≡◌, ◌∙◌, refl, sym, ap}
+use mathlib.Core.Path.{◌≡◌}
 use mathlib.Core.Bool.{true}
-use Prim.Native.Nat.{ℕ}
 use Rattle.loops.specs.Loops.{every}
-use Rattle.loops.proofs.BoolLaws.{test_passed, test_failed}
-use Rattle.loops.proofs.LoopLaws.{every_none, every_more, every_stop}
 use Rattle.fit.specs.Fit.{stored_fit}
-use Rattle.who.specs.Who.{who_parts}
-use borrow.Author.Rules.{rules}
 use Rattle.who.proofs.stores_fit.Given as goal
 
 abbrev pub invariant-loop-i : goal.invariant-loop-i

@@ -16,7 +16,6 @@ use Rattle.paper.specs.Answers.{number_of}
 use Rattle.register.proofs.KindLaws.{good_depot, bad_depot, good_bearing, bad_bearing}
 use Rattle.who.specs.Who.{who_parts}
 use Rattle.who.proofs.WhoLaws.{who_book, who_depot, who_key, who_parts_law, who_good, who_refused, who_done}
-use borrow.Author.Rules.{rules}
 use Rattle.who.proofs.who_has.Goals as goal
 use Rattle.who.proofs.who_has.Lts as lts
 use Rattle.who.proofs.who_has.Tie as tie

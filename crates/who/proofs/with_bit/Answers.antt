@@ -1,6 +1,5 @@
 -- `who::with_bit` meets its contract: a bit above all that the mask has is added by `|`.
 -- Assumes nothing.
-use borrow.Author.Rules.{rules}
 use Rattle.who.proofs.MaskLaws.{with_bit, without_bit}
 use Rattle.who.proofs.with_bit.Goals as goal
 

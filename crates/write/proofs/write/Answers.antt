@@ -10,7 +10,6 @@ use Rattle.register.specs.Promises.{Write}
 use Rattle.register.proofs.CallLaws.{bad_asked, good_asked, not_done, by_refusal, after_refused}
 use Rattle.register.proofs.Numbers.{asked_done}
 use Rattle.register.proofs.SendTable.{write_bad}
-use borrow.Author.Rules.{rules}
 use Rattle.write.proofs.write.Goals as goal
 
 pub write_at-requires : goal.write_at-requires

@@ -29,7 +29,6 @@ use Rattle.register.proofs.FitReady.{shelf_in}
 use Rattle.register.proofs.HomeLaws.{parts_write}
 use Rattle.register.proofs.WriteLaws.{payload_back}
 use Rattle.register.proofs.SendTable.{write_book_law, write_date, write_card, write_wait, write_end, write_full, write_good}
-use borrow.Author.Rules.{rules}
 use Rattle.write.proofs.write_at.Goals as goal
 use Rattle.write.proofs.write_at.Lts as lts
 use Rattle.write.proofs.write_at.Tie as tie

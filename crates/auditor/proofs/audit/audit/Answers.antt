@@ -2,7 +2,6 @@
 -- Assumes nothing.
 use native.Mathlib.Omega.{arith}
 use mathlib.Core.Path.{refl}
-use borrow.Author.Rules.{rules}
 use Rattle.auditor.specs.Verdict.{so, not_so}
 use Rattle.auditor.proofs.audit.audit.Goals as goal
 

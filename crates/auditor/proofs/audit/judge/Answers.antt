@@ -1,7 +1,6 @@
 -- `auditor::audit::judge` meets its contract. The bits are the pasts, so the searches name the first entry on a circle and the first low read.
 -- Assumes nothing.
 use native.Mathlib.Omega.{arith}
-use borrow.Author.Rules.{rules}
 use Rattle.auditor.proofs.JudgeLaws.{judged_bad, judged_circle, judged_low, judged_causal}
 use Rattle.auditor.proofs.audit.judge.Goals as goal
 

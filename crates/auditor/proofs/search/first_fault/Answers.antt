@@ -1,14 +1,12 @@
 -- `auditor::search::first_fault` meets its contract. The loop's invariant: none passed has the fault.
 -- Assumes nothing.
-use Prim.Native.Nat.{ℕ, ◌≤◌, ◌<◌, ◌-◌}
+use Prim.Native.Nat.{◌-◌}
 use native.Mathlib.Omega.{arith}
-use mathlib.Core.Path.{◌≡◌, sym, ◌∙◌}
+use mathlib.Core.Path.{sym, ◌∙◌}
 use mathlib.Core.Bool.{true}
 use borrow.Author.Rules.{rules}
 use borrow.Author.Count.{below_none, below_more}
 use Rattle.loops.proofs.BoolLaws.{both_ways}
-use Rattle.chains.specs.Table.{bit}
-use Rattle.auditor.specs.Judging.{faulty}
 use Rattle.auditor.proofs.JudgeLaws.{search_found, search_end}
 use Rattle.auditor.proofs.search.first_fault.Goals as goal
 

@@ -1,15 +1,10 @@
 -- What the loop keeps, and what falls. Answers.antt has the idea.
 -- Assumes nothing.
 use Prim.Native.Nat.{ℕ, ◌≤◌, ◌<◌, ◌-◌}
-use native.Mathlib.Omega.{arith}
-use mathlib.Core.Path.{◌≡◌, sym, ◌∙◌}
+use mathlib.Core.Path.{◌≡◌}
 use mathlib.Core.Bool.{true}
-use borrow.Author.Rules.{rules}
-use borrow.Author.Count.{below_none, below_more}
-use Rattle.loops.proofs.BoolLaws.{both_ways}
 use Rattle.chains.specs.Table.{bit}
 use Rattle.auditor.specs.Judging.{faulty}
-use Rattle.auditor.proofs.JudgeLaws.{search_found, search_end}
 use Rattle.auditor.proofs.search.first_fault.Given as goal
 
 abbrev pub invariant-loop-i : goal.invariant-loop-i

@@ -1,14 +1,12 @@
 -- `auditor::search::has` meets its contract. The loop's invariant: the test fails at every entry passed.
 -- Assumes nothing.
-use Prim.Native.Nat.{ℕ, ◌≤◌, ◌<◌, ◌-◌}
+use Prim.Native.Nat.{◌-◌}
 use native.Mathlib.Omega.{arith}
-use mathlib.Core.Path.{◌≡◌, sym, ◌∙◌}
+use mathlib.Core.Path.{sym, ◌∙◌}
 use mathlib.Core.Bool.{false}
 use borrow.Author.Rules.{rules}
 use borrow.Author.Count.{below_none, below_more}
-use Rattle.chains.specs.Table.{bit}
 use Rattle.chains.proofs.SomeLaws.{some_here, some_never}
-use Rattle.auditor.specs.Judging.{sought}
 use Rattle.auditor.proofs.search.has.Goals as goal
 
 pub loop-j-init : goal.loop-j-init

@@ -1,13 +1,9 @@
 -- What the loop keeps, and what falls. Answers.antt has the idea.
 -- Assumes nothing.
 use Prim.Native.Nat.{ℕ, ◌≤◌, ◌<◌, ◌-◌}
-use native.Mathlib.Omega.{arith}
-use mathlib.Core.Path.{◌≡◌, sym, ◌∙◌}
+use mathlib.Core.Path.{◌≡◌}
 use mathlib.Core.Bool.{false}
-use borrow.Author.Rules.{rules}
-use borrow.Author.Count.{below_none, below_more}
 use Rattle.chains.specs.Table.{bit}
-use Rattle.chains.proofs.SomeLaws.{some_here, some_never}
 use Rattle.auditor.specs.Judging.{sought}
 use Rattle.auditor.proofs.search.has.Given as goal
 

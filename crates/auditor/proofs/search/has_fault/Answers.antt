@@ -1,6 +1,5 @@
 -- `auditor::search::has_fault` meets its contract. One test for each.
 -- Assumes nothing.
-use borrow.Author.Rules.{rules}
 use Rattle.auditor.specs.Judging.{faulty}
 use Rattle.auditor.proofs.search.has_fault.Goals as goal
 

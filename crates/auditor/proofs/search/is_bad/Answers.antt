@@ -2,7 +2,6 @@
 -- Assumes nothing.
 use mathlib.Core.Path.{sym, ◌∙◌}
 use borrow.Author.Tests.{eq-eqb, ne_eqb}
-use borrow.Author.Rules.{rules}
 use Rattle.loops.proofs.BoolLaws.{pick_true, pick_false}
 use Rattle.auditor.specs.Verdict.{bad}
 use Rattle.auditor.proofs.search.is_bad.Goals as goal

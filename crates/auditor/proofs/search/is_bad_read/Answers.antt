@@ -2,7 +2,6 @@
 -- Assumes nothing.
 use mathlib.Core.Path.{sym, ◌∙◌, ap}
 use mathlib.Core.Bool.{not}
-use borrow.Author.Rules.{rules}
 use Rattle.loops.proofs.BoolLaws.{and_next, and_stop}
 use Rattle.auditor.specs.Verdict.{bad_read}
 use Rattle.auditor.specs.Judging.{sought}

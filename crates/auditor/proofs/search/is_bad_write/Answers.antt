@@ -4,7 +4,6 @@ use Prim.Native.Nat.{◌+◌, ◌*◌}
 use native.Mathlib.Omega.{arith}
 use mathlib.Core.Path.{sym, ◌∙◌}
 use borrow.Author.Tests.{eq-eqb, ne_eqb, le-leb, lt-leb}
-use borrow.Author.Rules.{rules}
 use Rattle.loops.proofs.BoolLaws.{or_next, or_stop}
 use Rattle.auditor.specs.Verdict.{bad_write}
 use Rattle.auditor.specs.Judging.{sought}

@@ -1,6 +1,5 @@
 -- `auditor::search::is_sought` meets its contract. One test for each.
 -- Assumes nothing.
-use borrow.Author.Rules.{rules}
 use Rattle.auditor.specs.Judging.{sought}
 use Rattle.auditor.proofs.search.is_sought.Goals as goal
 

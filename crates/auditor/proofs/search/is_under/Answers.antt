@@ -1,7 +1,6 @@
 -- `auditor::search::is_under` meets its contract. Each test is one of the chain.
 -- Assumes nothing.
 use mathlib.Core.Path.{sym, ◌∙◌}
-use borrow.Author.Rules.{rules}
 use Rattle.loops.proofs.BoolLaws.{and_next, and_stop, test_passed, test_failed}
 use Rattle.auditor.specs.Judging.{under}
 use Rattle.auditor.proofs.search.is_under.Goals as goal

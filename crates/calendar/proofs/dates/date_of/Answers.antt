@@ -5,7 +5,6 @@ use native.Mathlib.Omega.{arith}
 use mathlib.Core.Path.{◌≡◌, sym, ◌∙◌, ap, ap₂}
 use mathlib.Core.List.{List}
 use lib.ListN.{get_or}
-use borrow.Author.Rules.{rules}
 use Rattle.months.specs.Months.{start, Starts}
 use Rattle.calendar.specs.Dates.{date_in, month_on, date_of}
 use Rattle.calendar.specs.declared.answers.Date.{Date}

@@ -4,7 +4,6 @@ use Prim.Native.Nat.{ℕ, ◌+◌, ◌-◌, ◌≤◌, min}
 use native.Mathlib.Omega.{arith}
 use mathlib.Core.Path.{◌≡◌, sym, ◌∙◌, ap}
 use mathlib.Core.Bool.{true}
-use borrow.Author.Rules.{rules}
 use Rattle.loops.proofs.BoolLaws.{test_passed, test_failed}
 use Rattle.months.specs.Months.{start}
 use Rattle.calendar.specs.Dates.{is_date, month_index, day_number}

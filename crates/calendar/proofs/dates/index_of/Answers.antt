@@ -1,7 +1,6 @@
 -- `calendar::dates::index_of` meets its contract: a date that exists has a year and a month within their bounds, so nothing wraps.
 -- Assumes nothing.
 use native.Mathlib.Omega.{arith}
-use borrow.Author.Rules.{rules}
 use Rattle.calendar.proofs.DateLaws.{date_real}
 use Rattle.calendar.proofs.dates.index_of.Goals as goal
 

@@ -2,7 +2,6 @@
 -- Assumes nothing.
 use mathlib.Core.Path.{sym, ◌∙◌, ap}
 use lib.Dec.{leb}
-use borrow.Author.Rules.{rules}
 use Rattle.calendar.proofs.DateLaws.{date_early, date_late, date_day_0, date_within}
 use Rattle.calendar.proofs.dates.is_date.Goals as goal
 

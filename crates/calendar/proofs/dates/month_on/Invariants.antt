@@ -1,12 +1,7 @@
 -- What the loop keeps, and what falls. Answers.antt has the idea.
 -- Assumes nothing.
-use Prim.Native.Nat.{suc, ◌+◌, ◌-◌, ◌/◌, ◌≤◌, ◌<◌}
-use native.Mathlib.Omega.{arith}
-use mathlib.Core.Path.{◌≡◌, sym, ap}
-use borrow.Author.Rules.{rules}
+use Prim.Native.Nat.{◌-◌, ◌≤◌, ◌<◌}
 use Rattle.months.specs.Months.{start}
-use Rattle.months.proofs.StartLaws.{start_none, year_2400_start, start_suc}
-use Rattle.calendar.proofs.DateLaws.{month_on_is}
 use Rattle.calendar.proofs.dates.month_on.Given as goal
 
 abbrev pub invariant-loop-low : goal.invariant-loop-low

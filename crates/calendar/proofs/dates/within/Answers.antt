@@ -3,7 +3,6 @@
 use Prim.Native.Nat.{ℕ, ◌+◌, ◌-◌, ◌≤◌, ◌<◌, min}
 use native.Mathlib.Omega.{arith}
 use mathlib.Core.Path.{◌≡◌, sym, ◌∙◌, ap, ap₂}
-use borrow.Author.Rules.{rules}
 use Rattle.months.specs.Months.{days_in, days_of, year_of, month_of, start}
 use Rattle.calendar.specs.Dates.{date_in}
 use Rattle.calendar.specs.Next.{day_within, numbered}

@@ -2,7 +2,6 @@
 -- Assumes nothing.
 use Rattle.upkeep.specs.Requests.{setting_up, did_read, did_write, ticked, took, refreshed, moved, did_list}
 use Rattle.calls.proofs.ReplyLaws.{performed}
-use borrow.Author.Rules.{rules}
 use Rattle.calls.proofs.perform.perform.Goals as goal
 
 pub returns-in-Setup : goal.returns-in-Setup

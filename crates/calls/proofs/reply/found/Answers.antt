@@ -1,6 +1,5 @@
 -- `calls::reply::found` meets its contract: what was found, with its vector.
 -- Assumes nothing.
-use borrow.Author.Rules.{rules}
 use mathlib.Core.Path.{◌≡◌, sym, ap}
 use lib.ListN.{take}
 use Rattle.paper.specs.Answers.{paper_found, paper_read}

@@ -5,7 +5,6 @@ use Rattle.paper.specs.Answers.{told_all, paper_listed, paper_list}
 use Rattle.paper.specs.declared.answer.Answer as plain
 use Rattle.request.specs.Replies.{paper_outcome}
 use Rattle.calls.proofs.ReplyLaws.{bare_reply, list_reply}
-use borrow.Author.Rules.{rules}
 use Rattle.calls.proofs.reply.listed.Goals as goal
 
 pub returns-in-Done : goal.returns-in-Done

@@ -4,7 +4,6 @@ use mathlib.Core.Path.{sym, ap}
 use Rattle.paper.specs.Answers.{paper_write}
 use Rattle.request.specs.Replies.{paper_outcome}
 use Rattle.calls.proofs.ReplyLaws.{bare_reply}
-use borrow.Author.Rules.{rules}
 use Rattle.calls.proofs.reply.wrote.Goals as goal
 
 pub returns-in-Current : goal.returns-in-Current

@@ -2,7 +2,6 @@
 -- Assumes nothing.
 use mathlib.Core.Path.{sym}
 use borrow.Author.Tests.{lt-ltb, le-ltb}
-use borrow.Author.Rules.{rules}
 use Rattle.loops.proofs.BoolLaws.{and_next, and_stop}
 use Rattle.entries.specs.Entries.{earlier}
 use Rattle.entries.proofs.beside.is_earlier.Goals as goal

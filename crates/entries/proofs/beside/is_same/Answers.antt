@@ -1,11 +1,10 @@
 -- `entries::beside::is_same` meets its contract. The loop's invariant: the words passed are the same.
 -- Assumes nothing.
-use Prim.Native.Nat.{ℕ, ◌≤◌, ◌<◌, ◌-◌}
+use Prim.Native.Nat.{◌-◌}
 use native.Mathlib.Nat.{lt_of_lt_of_le}
-use mathlib.Core.Path.{◌≡◌, sym}
+use mathlib.Core.Path.{sym}
 use borrow.Author.Rules.{rules}
 use borrow.Author.Count.{below_none, below_more}
-use Rattle.order.specs.Vector.{vector_at}
 use Rattle.order.proofs.VectorLaws.{agree_intro}
 use Rattle.entries.proofs.EntryLaws.{agree_stop}
 use Rattle.entries.proofs.beside.is_same.Goals as goal

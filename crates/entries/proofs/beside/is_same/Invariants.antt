@@ -1,13 +1,8 @@
 -- What the loop keeps, and what falls. Answers.antt has the idea.
 -- Assumes nothing.
 use Prim.Native.Nat.{ℕ, ◌≤◌, ◌<◌, ◌-◌}
-use native.Mathlib.Nat.{lt_of_lt_of_le}
-use mathlib.Core.Path.{◌≡◌, sym}
-use borrow.Author.Rules.{rules}
-use borrow.Author.Count.{below_none, below_more}
+use mathlib.Core.Path.{◌≡◌}
 use Rattle.order.specs.Vector.{vector_at}
-use Rattle.order.proofs.VectorLaws.{agree_intro}
-use Rattle.entries.proofs.EntryLaws.{agree_stop}
 use Rattle.entries.proofs.beside.is_same.Given as goal
 
 abbrev pub invariant-loop-x : goal.invariant-loop-x

@@ -3,7 +3,6 @@
 use mathlib.Core.Path.{sym, ◌∙◌, ap}
 use mathlib.Core.Bool.{not}
 use borrow.Author.Tests.{eq-eqb, ne_eqb}
-use borrow.Author.Rules.{rules}
 use Rattle.loops.proofs.BoolLaws.{and_next, and_stop}
 use Rattle.entries.specs.Entries.{twin}
 use Rattle.entries.proofs.beside.is_twin.Goals as goal

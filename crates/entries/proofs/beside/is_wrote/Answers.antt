@@ -2,7 +2,6 @@
 -- Assumes nothing.
 use mathlib.Core.Path.{sym, ◌∙◌}
 use borrow.Author.Tests.{eq-eqb, ne_eqb}
-use borrow.Author.Rules.{rules}
 use Rattle.loops.proofs.BoolLaws.{and_next, and_stop}
 use Rattle.entries.specs.Entries.{wrote}
 use Rattle.entries.proofs.beside.is_wrote.Goals as goal

@@ -2,7 +2,6 @@
 -- Assumes nothing.
 use mathlib.Core.Path.{sym, ◌∙◌}
 use borrow.Author.Tests.{eq-eqb, ne_eqb}
-use borrow.Author.Rules.{rules}
 use Rattle.loops.proofs.BoolLaws.{and_next, and_stop, or_next, or_stop}
 use Rattle.entries.specs.Rests.{rests_on}
 use Rattle.entries.proofs.beside.rests_on.Goals as goal

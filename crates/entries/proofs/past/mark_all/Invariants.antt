@@ -1,10 +1,8 @@
 -- What the loop keeps, and what falls. Answers.antt has the idea.
 -- Assumes nothing.
 use Prim.Native.Nat.{◌≤◌, ◌-◌}
-use borrow.Author.Rules.{rules}
 use Rattle.entries.specs.Rests.{rests_on}
 use Rattle.chains.specs.Table.{Adds, turns, direct}
-use Rattle.chains.proofs.TableLaws.{turns_none, turns_more, turns_done}
 use Rattle.entries.proofs.past.mark_all.Given as goal
 
 abbrev pub invariant-loop-i : goal.invariant-loop-i

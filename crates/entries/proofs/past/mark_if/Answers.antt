@@ -1,6 +1,5 @@
 -- `entries::past::mark_if` meets its contract. A step is marked, and what is none is not.
 -- Assumes nothing.
-use borrow.Author.Rules.{rules}
 use Rattle.loops.proofs.BoolLaws.{test_passed, test_failed}
 use Rattle.chains.proofs.TableLaws.{adds_direct, adds_indirect}
 use Rattle.entries.proofs.past.mark_if.Goals as goal

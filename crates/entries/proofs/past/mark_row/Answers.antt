@@ -1,9 +1,7 @@
 -- `entries::past::mark_row` meets its contract. The loop's invariant: the entries passed are marked.
 -- Assumes nothing.
-use Prim.Native.Nat.{◌≤◌, ◌-◌}
+use Prim.Native.Nat.{◌-◌}
 use borrow.Author.Rules.{rules}
-use Rattle.entries.specs.Rests.{rests_on}
-use Rattle.chains.specs.Table.{Adds, turns, direct}
 use Rattle.chains.proofs.TableLaws.{turns_none, turns_more, turns_done}
 use Rattle.entries.proofs.past.mark_row.Goals as goal
 

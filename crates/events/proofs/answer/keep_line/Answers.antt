@@ -5,7 +5,6 @@ use Rattle.line.specs.Reading.{reading}
 use Rattle.line.proofs.PrintLaws.{wrote_byte, wrote_then, wrote_length}
 use Rattle.events.specs.Answering.{book_after_line, answer_to, record_to, done_by}
 use Rattle.events.proofs.SayLaws.{reading_length}
-use borrow.Author.Rules.{rules}
 use Rattle.events.proofs.answer.keep_line.Goals as goal
 
 pub bounds-out-last : goal.bounds-out-last

@@ -11,7 +11,6 @@ use Rattle.reply.specs.Printed.{printed}
 use Rattle.reply.proofs.RoomLaws.{no_list, printed_room}
 use Rattle.events.specs.Answering.{reading_book, reading_says, reading_done}
 use Rattle.events.proofs.SayLaws.{told_bad, told_event, told_count, told_room_law, told_part, kept_reading}
-use borrow.Author.Rules.{rules}
 use Rattle.events.proofs.answer.say_line.Goals as goal
 
 pub answer_number-requires : goal.answer_number-requires

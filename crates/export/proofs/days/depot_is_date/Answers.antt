@@ -2,7 +2,6 @@
 -- Assumes nothing.
 use mathlib.Core.Path.{sym, ◌∙◌}
 use Rattle.loops.proofs.BoolLaws.{pick_true, pick_false}
-use borrow.Author.Rules.{rules}
 use Rattle.export.proofs.days.depot_is_date.Goals as goal
 
 pub returns-then-is_date : goal.returns-then-is_date

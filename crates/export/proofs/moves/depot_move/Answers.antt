@@ -2,7 +2,6 @@
 -- Assumes nothing.
 use Rattle.upkeep.specs.Requests.{moved}
 use Rattle.telling.proofs.CallLaws.{by_call}
-use borrow.Author.Rules.{rules}
 use Rattle.export.proofs.moves.depot_move.Goals as goal
 
 pub returns : goal.returns

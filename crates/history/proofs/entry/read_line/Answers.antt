@@ -1,7 +1,6 @@
 -- `history::entry::read_line` meets its contract. The first byte says how the rest is read.
 -- Assumes nothing.
 use mathlib.Core.Path.{sym, ◌∙◌, ap}
-use borrow.Author.Rules.{rules}
 use Rattle.history.specs.Entry.{stored}
 use Rattle.history.proofs.ReadLaws.{entry_empty, entry_write, entry_read, entry_other}
 use Rattle.history.proofs.entry.read_line.Goals as goal

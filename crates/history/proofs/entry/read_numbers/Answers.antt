@@ -1,15 +1,12 @@
 -- `history::entry::read_numbers` meets its contract. The loop's invariant: the numbers stored, with those that are left, give the answer.
 -- Assumes nothing.
-use Prim.Native.Nat.{◌-◌, ◌≤◌}
+use Prim.Native.Nat.{◌-◌}
 use native.Mathlib.Nat.{sub-zero}
 use native.Mathlib.Omega.{arith}
-use mathlib.Core.Path.{◌≡◌, sym, ◌∙◌, ap}
-use lib.ListN.{length, drop}
+use mathlib.Core.Path.{sym, ◌∙◌, ap}
 use borrow.Author.Rules.{rules}
-use Rattle.line.specs.Reading.{numbers_in}
 use Rattle.line.proofs.NumberLaws.{missed, found}
 use Rattle.line.proofs.ReadingLaws.{numbers_end, numbers_full, numbers_unspaced, numbers_missed, numbers_found}
-use Rattle.history.specs.Entry.{stored, kinded}
 use Rattle.history.proofs.ReadLaws.{filled, filled_start, filled_wrong, filled_right, filled_refused, filled_turn}
 use Rattle.history.proofs.entry.read_numbers.Goals as goal
 

@@ -1,16 +1,11 @@
 -- What the loop keeps, and what falls. Answers.antt has the idea.
 -- Assumes nothing.
 use Prim.Native.Nat.{◌-◌, ◌≤◌}
-use native.Mathlib.Nat.{sub-zero}
-use native.Mathlib.Omega.{arith}
-use mathlib.Core.Path.{◌≡◌, sym, ◌∙◌, ap}
+use mathlib.Core.Path.{◌≡◌}
 use lib.ListN.{length, drop}
-use borrow.Author.Rules.{rules}
 use Rattle.line.specs.Reading.{numbers_in}
-use Rattle.line.proofs.NumberLaws.{missed, found}
-use Rattle.line.proofs.ReadingLaws.{numbers_end, numbers_full, numbers_unspaced, numbers_missed, numbers_found}
 use Rattle.history.specs.Entry.{stored, kinded}
-use Rattle.history.proofs.ReadLaws.{filled, filled_start, filled_wrong, filled_right, filled_refused, filled_turn}
+use Rattle.history.proofs.ReadLaws.{filled}
 use Rattle.history.proofs.entry.read_numbers.Given as goal
 
 abbrev pub invariant-loop-i : goal.invariant-loop-i

@@ -3,7 +3,6 @@
 use native.Mathlib.Omega.{arith}
 use mathlib.Core.Path.{sym, ◌∙◌, ap}
 use lib.Seq.{length-take-le}
-use borrow.Author.Rules.{rules}
 use Rattle.history.specs.Entry.{stored}
 use Rattle.history.proofs.ReadLaws.{read_short, read_unspaced, read_undashed, read_dashed}
 use Rattle.history.proofs.entry.read_read.Goals as goal

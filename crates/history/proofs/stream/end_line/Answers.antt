@@ -4,7 +4,6 @@ use native.Mathlib.Omega.{arith}
 use mathlib.Core.Path.{refl, sym, ◌∙◌, ap}
 use lib.ListN.{length}
 use lib.Seq.{length-take-le}
-use borrow.Author.Rules.{rules}
 use Rattle.history.proofs.Accepted.{stored_length}
 use Rattle.history.proofs.StreamLaws.{ended_many, ended_few}
 use Rattle.history.proofs.stream.end_line.Goals as goal

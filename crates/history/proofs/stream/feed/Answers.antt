@@ -1,10 +1,8 @@
 -- `history::stream::feed` meets its contract. The loop's invariant: what is left of the piece makes the whole.
 -- Assumes nothing.
-use Prim.Native.Nat.{◌-◌, ◌≤◌}
-use mathlib.Core.Path.{◌≡◌, refl, sym, ◌∙◌}
-use lib.ListN.{length, drop}
+use Prim.Native.Nat.{◌-◌}
+use mathlib.Core.Path.{refl, sym, ◌∙◌}
 use borrow.Author.Rules.{rules}
-use Rattle.history.specs.Stream.{Fits, state, through}
 use Rattle.history.proofs.StreamLaws.{through_next, through_over}
 use Rattle.history.proofs.stream.feed.Goals as goal
 

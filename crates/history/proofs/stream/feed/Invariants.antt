@@ -1,11 +1,9 @@
 -- What the loop keeps, and what falls. Answers.antt has the idea.
 -- Assumes nothing.
 use Prim.Native.Nat.{◌-◌, ◌≤◌}
-use mathlib.Core.Path.{◌≡◌, refl, sym, ◌∙◌}
+use mathlib.Core.Path.{◌≡◌}
 use lib.ListN.{length, drop}
-use borrow.Author.Rules.{rules}
 use Rattle.history.specs.Stream.{Fits, state, through}
-use Rattle.history.proofs.StreamLaws.{through_next, through_over}
 use Rattle.history.proofs.stream.feed.Given as goal
 
 abbrev pub invariant-loop-i : goal.invariant-loop-i

@@ -1,6 +1,5 @@
 -- `history::stream::feed_byte` meets its contract. A line feed, a byte that is kept, or one too many.
 -- Assumes nothing.
-use borrow.Author.Rules.{rules}
 use Rattle.history.proofs.StreamLaws.{fed_end, fed_more, fed_full}
 use Rattle.history.proofs.stream.feed_byte.Goals as goal
 

@@ -1,7 +1,6 @@
 -- `history::stream::finish` meets its contract. A last line counts if not empty.
 -- Assumes nothing.
 use mathlib.Core.Path.{◌∙◌}
-use borrow.Author.Rules.{rules}
 use Rattle.history.proofs.StreamLaws.{finished_empty, finished_last}
 use Rattle.history.proofs.stream.finish.Goals as goal
 

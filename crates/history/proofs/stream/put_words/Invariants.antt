@@ -1,12 +1,9 @@
 -- What the loop keeps, and what falls. Answers.antt has the idea.
 -- Assumes nothing.
 use Prim.Native.Nat.{◌+◌, ◌-◌, ◌≤◌}
-use native.Mathlib.Nat.{add-zero}
-use mathlib.Core.Path.{◌≡◌, refl, sym, ◌∙◌}
-use lib.ListN.{length, drop, length-set}
+use mathlib.Core.Path.{◌≡◌}
+use lib.ListN.{length, drop}
 use lib.Seq.{sets}
-use borrow.Author.Rules.{rules}
-use Rattle.history.proofs.StreamLaws.{sets_next, sets_over}
 use Rattle.history.proofs.stream.put_words.Given as goal
 
 abbrev pub invariant-loop-x : goal.invariant-loop-x

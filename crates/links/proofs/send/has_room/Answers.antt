@@ -6,7 +6,6 @@ use lib.Dec.{ltb}
 use borrow.Author.Tests.{eq-eqb, ne_eqb}
 use Rattle.loops.proofs.BoolLaws.{or_next, or_stop}
 use Rattle.book.specs.Layout.{link_room, held}
-use borrow.Author.Rules.{rules}
 use Rattle.links.proofs.send.has_room.Goals as goal
 
 pub returns-then-index : goal.returns-then-index

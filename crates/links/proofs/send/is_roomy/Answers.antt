@@ -1,11 +1,10 @@
 -- `links::send::is_roomy` meets its contract. The loop's invariant: the links passed have room.
 -- Assumes nothing.
-use Prim.Native.Nat.{ℕ, ◌≤◌, ◌-◌}
+use Prim.Native.Nat.{ℕ, ◌-◌}
 use native.Mathlib.Nat.{le_antisymm}
 use mathlib.Core.Path.{◌≡◌, ◌∙◌, sym, ap}
 use mathlib.Core.Bool.{true, ◌||◌}
 use lib.Dec.{eqb, ltb}
-use Rattle.loops.specs.Loops.{every}
 use Rattle.loops.proofs.BoolLaws.{test_passed, test_failed}
 use Rattle.loops.proofs.LoopLaws.{every_none, every_more, every_stop}
 use Rattle.book.specs.Layout.{link_room, link_of, held}

@@ -1,16 +1,11 @@
 -- What the loop keeps, and what falls. Answers.antt has the idea.
 -- Assumes nothing.
-use Prim.Native.Nat.{ℕ, ◌≤◌, ◌-◌}
-use native.Mathlib.Nat.{le_antisymm}
-use mathlib.Core.Path.{◌≡◌, ◌∙◌, sym, ap}
+use Prim.Native.Nat.{◌≤◌, ◌-◌}
+use mathlib.Core.Path.{◌≡◌}
 use mathlib.Core.Bool.{true, ◌||◌}
 use lib.Dec.{eqb, ltb}
 use Rattle.loops.specs.Loops.{every}
-use Rattle.loops.proofs.BoolLaws.{test_passed, test_failed}
-use Rattle.loops.proofs.LoopLaws.{every_none, every_more, every_stop}
 use Rattle.book.specs.Layout.{link_room, link_of, held}
-use Rattle.links.specs.Send.{roomy}
-use borrow.Author.Rules.{rules}
 use Rattle.links.proofs.send.is_roomy.Given as goal
 
 abbrev pub invariant-loop-to : goal.invariant-loop-to

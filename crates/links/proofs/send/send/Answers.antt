@@ -1,10 +1,9 @@
 -- `links::send::send` meets its contract. The loop's invariant: the words are those of the turns so far; a link whose turn comes has the room it had.
 -- Assumes nothing.
-use Prim.Native.Nat.{ℕ, ◌≤◌, ◌<◌, ◌-◌}
+use Prim.Native.Nat.{ℕ, ◌<◌, ◌-◌}
 use native.Mathlib.Nat.{le_antisymm}
 use native.Mathlib.Omega.{arith}
 use mathlib.Core.Path.{◌≡◌, ◌∙◌, refl, sym, ap, subst}
-use lib.ListN.{length}
 use Rattle.loops.specs.Loops.{times}
 use Rattle.loops.proofs.LoopLaws.{times_none, times_more}
 use Rattle.book.specs.Layout.{link_of, held}

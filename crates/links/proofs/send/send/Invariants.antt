@@ -1,16 +1,10 @@
 -- What the loop keeps, and what falls. Answers.antt has the idea.
 -- Assumes nothing.
-use Prim.Native.Nat.{ℕ, ◌≤◌, ◌<◌, ◌-◌}
-use native.Mathlib.Nat.{le_antisymm}
-use native.Mathlib.Omega.{arith}
-use mathlib.Core.Path.{◌≡◌, ◌∙◌, refl, sym, ap, subst}
+use Prim.Native.Nat.{◌≤◌, ◌-◌}
+use mathlib.Core.Path.{◌≡◌}
 use lib.ListN.{length}
 use Rattle.loops.specs.Loops.{times}
-use Rattle.loops.proofs.LoopLaws.{times_none, times_more}
-use Rattle.book.specs.Layout.{link_of, held}
-use Rattle.links.specs.Send.{sent_to, sent}
-use Rattle.links.proofs.SendCode.{turn_room}
-use borrow.Author.Rules.{rules}
+use Rattle.links.specs.Send.{sent_to}
 use Rattle.links.proofs.send.send.Given as goal
 
 abbrev pub invariant-loop-to : goal.invariant-loop-to

@@ -14,7 +14,6 @@ use Rattle.journal.specs.declared.record.Kind.{Kind}
 use Rattle.journal.specs.declared.record.Kind.TheVariants.{Move}
 use Rattle.journal.specs.Record.{form_of, request_by}
 use Rattle.records.specs.Kinds.{shape_by, own_of, beside_by}
-use borrow.Author.Rules.{rules}
 use Rattle.records.proofs.asking.request_by.Goals as goal
 
 -- a kind, known by its case

@@ -2,7 +2,6 @@
 -- Assumes nothing.
 use mathlib.Core.Path.{sym, ap}
 use Rattle.journal.specs.declared.record.Kind.TheVariants.{Setup, Read, Write, Tick, Take, Refresh, Move, Page}
-use Rattle.journal.specs.Record.{byte_of}
 use Rattle.records.specs.Kinds.{named_by}
 use Rattle.records.proofs.KindLaws.{names_kind, names_none}
 use Rattle.records.proofs.kinds.kind_of.Goals as goal

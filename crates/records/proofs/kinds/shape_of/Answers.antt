@@ -5,7 +5,6 @@ use Rattle.journal.specs.declared.record.Kind.{Kind}
 use Rattle.journal.specs.Record.{form_of}
 use Rattle.records.specs.declared.kinds.Shape.{Shape}
 use Rattle.records.specs.Kinds.{shape_by}
-use borrow.Author.Rules.{rules}
 use Rattle.records.proofs.kinds.shape_of.Goals as goal
 
 -- a kind, known by its case

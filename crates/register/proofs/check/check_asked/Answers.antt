@@ -12,7 +12,6 @@ use Rattle.paper.specs.Answers.{number_of}
 use Rattle.register.specs.Checks.{AskChecked}
 use Rattle.register.proofs.TableLaws.{asked_book, asked_crew, asked_key, asked_good}
 use Rattle.register.proofs.KindLaws.{good_crew, bad_crew, good_bearing, bad_bearing}
-use borrow.Author.Rules.{rules}
 use Rattle.register.proofs.check.check_asked.Goals as goal
 use Rattle.register.proofs.check.check_asked.Lts as lts
 use Rattle.register.proofs.check.check_asked.Tie as tie

@@ -12,7 +12,6 @@ use Rattle.paper.specs.Answers.{number_of}
 use Rattle.register.specs.Checks.{LinkChecked}
 use Rattle.register.proofs.TakeTable.{link_book, link_depot, link_from, link_shelf, link_good}
 use Rattle.register.proofs.KindLaws.{good_depot, bad_depot, good_shelf, bad_shelf}
-use borrow.Author.Rules.{rules}
 use Rattle.register.proofs.check.check_link.Goals as goal
 use Rattle.register.proofs.check.check_link.Lts as lts
 use Rattle.register.proofs.check.check_link.Tie as tie

@@ -12,7 +12,6 @@ use Rattle.paper.specs.Answers.{number_of}
 use Rattle.register.specs.Checks.{PlaceChecked}
 use Rattle.register.proofs.TableLaws.{place_book, place_depot, place_shelf, place_good}
 use Rattle.register.proofs.KindLaws.{good_depot, bad_depot, good_shelf, bad_shelf}
-use borrow.Author.Rules.{rules}
 use Rattle.register.proofs.check.check_place.Goals as goal
 use Rattle.register.proofs.check.check_place.Lts as lts
 use Rattle.register.proofs.check.check_place.Tie as tie

@@ -1,8 +1,7 @@
 -- `register::calls::home::cut_vector` meets its contract: entry by entry.
 -- Assumes nothing.
-use mathlib.Core.List.{[], ◌∷◌}
+use mathlib.Core.List.{◌∷◌}
 use Rattle.register.specs.Answers.{cut}
-use borrow.Author.Rules.{rules}
 use Rattle.register.proofs.home.cut_vector.Goals as goal
 
 pub returns : goal.returns

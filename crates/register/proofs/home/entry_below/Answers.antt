@@ -3,7 +3,6 @@
 use mathlib.Core.Path.{sym}
 use borrow.Author.Tests.{lt-ltb, le-ltb}
 use Rattle.loops.proofs.BoolLaws.{pick_true, pick_false}
-use borrow.Author.Rules.{rules}
 use Rattle.register.proofs.home.entry_below.Goals as goal
 
 pub returns-then-x-n : goal.returns-then-x-n

@@ -2,7 +2,6 @@
 -- Assumes nothing.
 use mathlib.Core.Path.{◌∙◌}
 use Rattle.register.proofs.HomeLaws.{settled_four}
-use borrow.Author.Rules.{rules}
 use Rattle.register.proofs.home.settle_home.Goals as goal
 
 pub returns : goal.returns

@@ -3,7 +3,6 @@
 use Prim.Native.Nat.{ℕ, ◌%◌}
 use native.Mathlib.Nat.{mod-lt}
 use mathlib.Core.Path.{◌∙◌, ap}
-use borrow.Author.Rules.{rules}
 use Rattle.register.proofs.home.shelf_for.Goals as goal
 
 pub nth-requires : goal.nth-requires

@@ -3,7 +3,6 @@
 use native.Mathlib.Omega.{arith}
 use lib.ListN.{length-set}
 use Rattle.line.proofs.PrintLaws.{wrote_after, wrote_length}
-use borrow.Author.Rules.{rules}
 use Rattle.reply.proofs.page.say_list.Goals as goal
 
 pub say_page-requires : goal.say_page-requires

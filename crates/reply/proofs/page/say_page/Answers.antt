@@ -7,7 +7,6 @@ use mathlib.Core.Path.{◌≡◌, ap}
 use mathlib.Core.List.{List}
 use lib.ListN.{length, take, drop, length-take, length-drop}
 use Rattle.paper.specs.Answers.{told_all, told_in}
-use Rattle.line.specs.Printing.{Wrote}
 use Rattle.line.proofs.PrintLaws.{wrote_nothing, wrote_same, wrote_length}
 use Rattle.reply.specs.Printed.{page_bytes, told_bytes}
 use Rattle.reply.proofs.PageLaws.{page_none, wrote_told, room_told}

@@ -8,7 +8,6 @@ use lib.ListN.{get_or, take}
 use Rattle.line.specs.Answers.{value_told, unwritten_told}
 use Rattle.line.proofs.PrintLaws.{wrote_same, wrote_length}
 use Rattle.reply.proofs.PageLaws.{told_none, told_some, last_four, four_long, room_value, room_unwritten}
-use borrow.Author.Rules.{rules}
 use Rattle.reply.proofs.page.say_told.Goals as goal
 
 pub print_unwritten-requires : goal.print_unwritten-requires

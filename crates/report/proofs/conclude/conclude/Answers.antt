@@ -1,6 +1,5 @@
 -- `report::conclude::conclude` meets its contract: the end of the input, what is to be said, and its line.
 -- Assumes nothing.
-use borrow.Author.Rules.{rules}
 use Rattle.report.proofs.Theorems.{concluded}
 use Rattle.report.proofs.conclude.conclude.Goals as goal
 

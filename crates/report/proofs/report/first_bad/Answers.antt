@@ -1,13 +1,10 @@
 -- `report::report::first_bad` meets its contract. The loop's invariant: none passed is bad.
 -- Assumes nothing.
-use Prim.Native.Nat.{ℕ, ◌≤◌, ◌<◌, ◌-◌}
+use Prim.Native.Nat.{◌-◌}
 use native.Mathlib.Nat.{le_antisymm}
-use mathlib.Core.Path.{◌≡◌}
 use borrow.Author.Rules.{rules}
 use borrow.Author.Count.{below_none, below_more}
-use Rattle.entries.specs.Entries.{kind}
 use Rattle.auditor.proofs.JudgeLaws.{search_found, search_end}
-use Rattle.report.specs.Report.{bad_kind}
 use Rattle.report.proofs.report.first_bad.Goals as goal
 
 pub loop-i-init : goal.loop-i-init

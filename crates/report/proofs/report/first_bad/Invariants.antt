@@ -1,12 +1,8 @@
 -- What the loop keeps, and what falls. Answers.antt has the idea.
 -- Assumes nothing.
 use Prim.Native.Nat.{ℕ, ◌≤◌, ◌<◌, ◌-◌}
-use native.Mathlib.Nat.{le_antisymm}
 use mathlib.Core.Path.{◌≡◌}
-use borrow.Author.Rules.{rules}
-use borrow.Author.Count.{below_none, below_more}
 use Rattle.entries.specs.Entries.{kind}
-use Rattle.auditor.proofs.JudgeLaws.{search_found, search_end}
 use Rattle.report.specs.Report.{bad_kind}
 use Rattle.report.proofs.report.first_bad.Given as goal
 

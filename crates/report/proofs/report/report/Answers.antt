@@ -1,10 +1,8 @@
 -- `report::report::report` meets its contract: the answers in their order.
 -- Assumes nothing.
 use native.Mathlib.Omega.{arith}
-use native.Mathlib.Nat.{lt_of_lt_of_le}
 use mathlib.Core.Path.{sym}
 use lib.Seq.{length-take-le}
-use borrow.Author.Rules.{rules}
 use Rattle.auditor.specs.Verdict.{so, not_so}
 use Rattle.auditor.proofs.JudgeLaws.{named, unnamed}
 use Rattle.report.specs.Report.{found}

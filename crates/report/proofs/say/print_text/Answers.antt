@@ -1,11 +1,10 @@
 -- `report::say::print_text` meets its contract. The loop's invariant: storing what is left makes the whole.
 -- Assumes nothing.
-use Prim.Native.Nat.{◌+◌, ◌-◌, ◌≤◌}
+use Prim.Native.Nat.{◌-◌}
 use native.Mathlib.Nat.{add-zero}
 use native.Mathlib.Omega.{arith}
-use mathlib.Core.Path.{◌≡◌, refl, sym, ◌∙◌}
-use lib.ListN.{length, drop, length-set}
-use lib.Seq.{sets}
+use mathlib.Core.Path.{refl, sym, ◌∙◌}
+use lib.ListN.{length-set}
 use borrow.Author.Rules.{rules}
 use Rattle.history.proofs.StreamLaws.{sets_next, sets_over}
 use Rattle.report.proofs.say.print_text.Goals as goal

@@ -1,7 +1,6 @@
 -- `report::say::say` meets its contract: a bad line, or the finding.
 -- Assumes nothing.
 use native.Mathlib.Omega.{arith}
-use borrow.Author.Rules.{rules}
 use Rattle.report.specs.Report.{spoken}
 use Rattle.report.proofs.SayLaws.{room_numbered}
 use Rattle.report.proofs.say.say.Goals as goal

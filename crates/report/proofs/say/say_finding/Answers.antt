@@ -1,7 +1,6 @@
 -- `report::say::say_finding` meets its contract: a text for each answer.
 -- Assumes nothing.
 use native.Mathlib.Omega.{arith}
-use borrow.Author.Rules.{rules}
 use Rattle.report.specs.Report.{spoken_finding}
 use Rattle.report.proofs.SayLaws.{room_text, room_numbered}
 use Rattle.report.proofs.say.say_finding.Goals as goal

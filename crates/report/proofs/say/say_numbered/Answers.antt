@@ -2,9 +2,8 @@
 -- Assumes nothing.
 use native.Mathlib.Omega.{arith}
 use mathlib.Core.Path.{◌∙◌}
-use mathlib.Core.List.{[], ◌∷◌}
+use mathlib.Core.List.{◌∷◌}
 use lib.ListN.{length-set}
-use borrow.Author.Rules.{rules}
 use Rattle.line.proofs.PrintLaws.{room_first, room_then, wrote_then, wrote_byte}
 use Rattle.report.specs.Report.{ended, numbered}
 use Rattle.report.proofs.say.say_numbered.Goals as goal

@@ -1,6 +1,6 @@
 -- `restore::files::folder_length` meets its contract: it counts down from the path's length.
 -- Assumes nothing.
-use Rattle.std.proofs.Common.{◌≡◌, ℕ, ◌≤◌, List, length, take, sym, le_refl, arith, length-take-le, rules}
+use Rattle.std.proofs.Common.{◌≡◌, ℕ, ◌≤◌, List, length, take, sym, le_refl, arith, length-take-le}
 use Rattle.restore.proofs.files.folder_length.Goals as goal
 
 -- a number that is at most the length counts first bytes

@@ -1,6 +1,6 @@
 -- What the loop keeps, and what falls. Answers.antt has the idea.
 -- Assumes nothing.
-use Rattle.std.proofs.Common.{◌≡◌, ℕ, ◌≤◌, List, length, take, sym, le_refl, arith, length-take-le, rules}
+use Rattle.std.proofs.Common.{◌≤◌, length}
 use Rattle.restore.proofs.files.folder_length.Given as goal
 
 abbrev pub invariant-loop-i : goal.invariant-loop-i

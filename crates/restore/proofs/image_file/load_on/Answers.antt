@@ -1,7 +1,6 @@
 -- `restore::image_file::load_on` meets its contract: an image that is loaded has a fit book, and any other leaves the book.
 -- Assumes nothing.
 use Rattle.restore.proofs.RestoreLaws.{began_loaded}
-use Rattle.std.proofs.Common.{rules}
 use Rattle.restore.proofs.image_file.load_on.Goals as goal
 
 pub returns : goal.returns

@@ -1,7 +1,6 @@
 -- `restore::journal_file::recover_all` meets its contract. The loop's invariant: the book is one that a desk may begin with. The measure: the turns left.
 -- Assumes nothing.
-use Rattle.std.proofs.Common.{◌≡◌, length, refl, arith, rules}
-use Rattle.stream.specs.Stream.{Began}
+use Rattle.std.proofs.Common.{refl, arith, rules}
 use Rattle.restore.proofs.journal_file.recover_all.Goals as goal
 
 pub loop-turns-init : goal.loop-turns-init

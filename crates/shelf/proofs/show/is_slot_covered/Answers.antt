@@ -1,7 +1,6 @@
 -- `shelf::show::is_slot_covered` meets its contract: the two vectors as parts of the book.
 -- Assumes nothing.
 use Rattle.shelf.proofs.ShelfCode.{covered_lent}
-use borrow.Author.Rules.{rules}
 use Rattle.shelf.proofs.show.is_slot_covered.Goals as goal
 
 pub returns : goal.returns

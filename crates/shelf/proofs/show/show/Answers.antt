@@ -1,11 +1,9 @@
 -- `shelf::show::show` meets its contract. The loop's invariant: the words are those of the turns so far; a link whose turn comes is sound as it was.
 -- Assumes nothing.
-use Prim.Native.Nat.{ℕ, ◌≤◌, ◌-◌}
+use Prim.Native.Nat.{ℕ, ◌-◌}
 use native.Mathlib.Nat.{le_antisymm}
 use native.Mathlib.Omega.{arith}
 use mathlib.Core.Path.{◌≡◌, ◌∙◌, refl, sym, ap, subst}
-use lib.ListN.{length}
-use Rattle.loops.specs.Loops.{times}
 use Rattle.loops.proofs.LoopLaws.{times_none, times_more}
 use Rattle.book.specs.Layout.{link_of}
 use Rattle.shelf.specs.Asks.{Sound}

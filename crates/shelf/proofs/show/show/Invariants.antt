@@ -1,18 +1,10 @@
 -- What the loop keeps, and what falls. Answers.antt has the idea.
 -- Assumes nothing.
-use Prim.Native.Nat.{ℕ, ◌≤◌, ◌-◌}
-use native.Mathlib.Nat.{le_antisymm}
-use native.Mathlib.Omega.{arith}
-use mathlib.Core.Path.{◌≡◌, ◌∙◌, refl, sym, ap, subst}
+use Prim.Native.Nat.{◌≤◌, ◌-◌}
+use mathlib.Core.Path.{◌≡◌}
 use lib.ListN.{length}
 use Rattle.loops.specs.Loops.{times}
-use Rattle.loops.proofs.LoopLaws.{times_none, times_more}
-use Rattle.book.specs.Layout.{link_of}
-use Rattle.shelf.specs.Asks.{Sound}
-use Rattle.shelf.specs.Show.{shown}
 use Rattle.shelf.proofs.ShowFrame.{show_turn}
-use Rattle.shelf.proofs.ShelfCode.{turn_sound}
-use borrow.Author.Rules.{rules}
 use Rattle.shelf.proofs.show.show.Given as goal
 
 abbrev pub invariant-loop-from : goal.invariant-loop-from

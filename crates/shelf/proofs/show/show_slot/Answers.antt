@@ -1,7 +1,6 @@
 -- `shelf::show::show_slot` meets its contract: shown where it is covered, else moved down.
 -- Assumes nothing.
 use Rattle.shelf.proofs.ShelfCode.{sweep_shown, sweep_moved}
-use borrow.Author.Rules.{rules}
 use Rattle.shelf.proofs.show.show_slot.Goals as goal
 
 pub returns-then-is_slot_covered : goal.returns-then-is_slot_covered

@@ -1,10 +1,8 @@
 -- `shelf::show::sweep` meets its contract. The loop's invariant: the words and the number kept are those of the turns so far.
 -- Assumes nothing.
-use Prim.Native.Nat.{◌≤◌, ◌-◌}
+use Prim.Native.Nat.{◌-◌}
 use native.Mathlib.Nat.{le_antisymm}
-use mathlib.Core.Path.{◌≡◌, ◌∙◌, refl}
-use lib.ListN.{length}
-use Rattle.shelf.specs.Show.{swept}
+use mathlib.Core.Path.{◌∙◌, refl}
 use Rattle.shelf.proofs.ShelfCode.{sweep_none, sweep_more, sweep_kept, sweep_bearing}
 use borrow.Author.Rules.{rules}
 use Rattle.shelf.proofs.show.sweep.Goals as goal

@@ -1,12 +1,9 @@
 -- What the loop keeps, and what falls. Answers.antt has the idea.
 -- Assumes nothing.
 use Prim.Native.Nat.{◌≤◌, ◌-◌}
-use native.Mathlib.Nat.{le_antisymm}
-use mathlib.Core.Path.{◌≡◌, ◌∙◌, refl}
+use mathlib.Core.Path.{◌≡◌}
 use lib.ListN.{length}
 use Rattle.shelf.specs.Show.{swept}
-use Rattle.shelf.proofs.ShelfCode.{sweep_none, sweep_more, sweep_kept, sweep_bearing}
-use borrow.Author.Rules.{rules}
 use Rattle.shelf.proofs.show.sweep.Given as goal
 
 abbrev pub invariant-loop-i : goal.invariant-loop-i
