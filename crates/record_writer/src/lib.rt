@@ -14,7 +14,6 @@ use records::kinds::byte_of;
 use request::ask::Request;
 
 // How many bytes the record of a request has, with the numbers beside it.
-#[tactic(auto, unfolding(journal::specs::Record::form_of, journal::specs::Record::head_by, journal::specs::Record::head_size, journal::specs::Record::kind_in, journal::specs::Record::numbers_of))]
 pub fn size_of(request: Request, beside: &[u32]) -> usize
     ensures { result ≡ length (record_bytes (asked request beside.now)) }
 {
@@ -69,7 +68,6 @@ fn put_counted(out: &mut [u8], at: usize, kind: Kind, own: &[u32], beside: &[u32
 }
 
 // The record of a request stands from `at` on.
-#[tactic(auto, unfolding(journal::specs::Record::form_of, journal::specs::Record::head_by, journal::specs::Record::head_size, journal::specs::Record::kind_in, journal::specs::Record::numbers_of, journal::specs::Record::count_by, journal::specs::Record::head_of, journal::specs::Record::record_bytes))]
 pub fn write_record(request: Request, beside: &[u32], out: &mut [u8], at: usize)
     requires { (at + length (record_bytes (asked request beside.now)) ≤ length out.old) × Below byte_limit (record_bytes (asked request beside.now)) }
     ensures { out.new ≡ put out.old at (record_bytes (asked request beside.now)) }

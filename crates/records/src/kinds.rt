@@ -38,7 +38,6 @@ pub fn kind_of(n: u32) -> Named
 }
 
 // The byte that names a kind.
-#[tactic(auto, unfolding(journal::specs::Record::byte_of))]
 pub fn byte_of(kind: Kind) -> u8
     ensures { result ≡ byte_of kind }
 {
@@ -61,7 +60,6 @@ fn of_shape(own: usize, counted: bool) -> Shape
 }
 
 // What stands behind a kind's byte.
-#[tactic(auto, unfolding(crate::specs::Kinds::shape_by, journal::specs::Record::form_of))]
 pub fn shape_of(kind: Kind) -> Shape
     ensures { result ≡ shape_by (form_of kind) }
 {

@@ -10,4 +10,4 @@ pub returns : goal.returns
 returns c = plain_bytes _ _ _ c.byte_of.ensures c.put_words.ensures
 
 pub shape_of-out : goal.shape_of-out
-shape_of-out c = ap length (returns c.before) ∙ length_put _ _ _
+shape_of-out c = ap length (plain_bytes _ _ _ c.byte_of.ensures c.put_words.ensures) ∙ length_put _ _ _

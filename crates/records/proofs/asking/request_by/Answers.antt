@@ -32,9 +32,11 @@ unfolding own_of shape_by form_of
 two {n = n} e h = subst (λ (x : Kind). own_of x ≤ n) e h
 
 pub bounds-numbers-0 : goal.bounds-numbers-0
+unfolding request_in request_by beside_by own_of shape_by form_of
 bounds-numbers-0 c = omega (arith, two c.in-Move.is c.requires)
 
 pub bounds-numbers-1 : goal.bounds-numbers-1
+unfolding request_in request_by beside_by own_of shape_by form_of
 bounds-numbers-1 c = omega (arith, two c.in-Move.is c.requires)
 
 pub returns-in-Move : goal.returns-in-Move
@@ -44,22 +46,29 @@ returns-in-Move c =
     by_kind ns (request.Request.Move (get_or ns 0 0) (get_or ns 1 0)) c.in-Move.is refl
 
 pub returns-in-Setup : goal.returns-in-Setup
+unfolding request_in request_by beside_by own_of shape_by form_of
 returns-in-Setup c = by_event _ event.Setup _ c.in-Setup.is c.request_of.ensures refl
 
 pub returns-in-Read : goal.returns-in-Read
+unfolding request_in request_by beside_by own_of shape_by form_of
 returns-in-Read c = by_event _ event.Read _ c.in-Read.is c.request_of-in-Read.ensures refl
 
 pub returns-in-Write : goal.returns-in-Write
+unfolding request_in request_by beside_by own_of shape_by form_of
 returns-in-Write c = by_event _ event.Write _ c.in-Write.is c.request_of-in-Write.ensures refl
 
 pub returns-in-Tick : goal.returns-in-Tick
+unfolding request_in request_by beside_by own_of shape_by form_of
 returns-in-Tick c = by_event _ event.Tick _ c.in-Tick.is c.request_of-in-Tick.ensures refl
 
 pub returns-in-Take : goal.returns-in-Take
+unfolding request_in request_by beside_by own_of shape_by form_of
 returns-in-Take c = by_event _ event.Take _ c.in-Take.is c.request_of-in-Take.ensures refl
 
 pub returns-in-Refresh : goal.returns-in-Refresh
+unfolding request_in request_by beside_by own_of shape_by form_of
 returns-in-Refresh c = by_event _ event.Refresh _ c.in-Refresh.is c.request_of-in-Refresh.ensures refl
 
 pub returns-in-Page : goal.returns-in-Page
+unfolding request_in request_by beside_by own_of shape_by form_of
 returns-in-Page c = by_event _ event.List _ c.in-Page.is c.request_of-in-Page.ensures refl
