@@ -13,8 +13,8 @@ use Rattle.model.specs.Parts.{State, fresh}
 use Rattle.paper.specs.Calls.{tick, take}
 use Rattle.model.specs.Calls.{answers, step}
 use Rattle.model.specs.System.{after}
-use Rattle.model.specs.Cases.{counts, homes, listing_to_b, listing, listing_answers, stable_after, case_d, case_danswers}
-use Rattle.model.specs.Cases.{case_e, case_eanswers, case_f, case_fanswers, many_ticks, many_done, case_g, case_ganswers, clock_after, case_dates, case_dates_answers, case_cards, case_cards_answers, case_lists, case_lists_answers, CasesHold}
+use Rattle.model.specs.Cases.{counts, homes, listing_to_b, listing, listing_answers, stable_after, case_d, case_d_answers}
+use Rattle.model.specs.Cases.{case_e, case_e_answers, case_f, case_f_answers, many_ticks, many_done, case_g, case_g_answers, clock_after, case_dates, case_dates_answers, case_cards, case_cards_answers, case_lists, case_lists_answers, CasesHold}
 use Rattle.model.proofs.Lawful.{dominates, lawful, lawful_agrees, like, knowing, knowing_agrees}
 use Rattle.model.proofs.Computed.{answers_now, ends_now, answers_computed, ends_computed}
 
@@ -31,8 +31,8 @@ pub case_c_after : stable_after listing ≡ 2
 unfolding ends_now dominates lawful counts homes listing_to_b listing stable_after
 case_c_after = ap (λ (σ : State). (σ.shelf 1 0).stable 0) (ends_computed counts lawful lawful_agrees (fresh homes) listing) ∙ refl
 
-pub case_d_holds : answers counts (fresh homes) case_d ≡ case_danswers
-unfolding answers_now dominates lawful counts homes listing_to_b listing listing_answers case_d case_danswers
+pub case_d_holds : answers counts (fresh homes) case_d ≡ case_d_answers
+unfolding answers_now dominates lawful counts homes listing_to_b listing listing_answers case_d case_d_answers
 case_d_holds = answers_computed counts lawful lawful_agrees (fresh homes) case_d ∙ refl
 
 -- the vector (a, b) with the origin o, as the order looks at it
@@ -44,16 +44,16 @@ pub first_decides : above 2 (pair_rank 1 0 0) (pair_rank 0 1 1) ≡ true
 unfolding pair_rank pick
 first_decides = above_case _ _ refl refl refl refl refl refl
 
-pub case_e_holds : answers counts (fresh homes) case_e ≡ case_eanswers
-unfolding answers_now dominates lawful like knowing pair_rank counts homes case_e case_eanswers
+pub case_e_holds : answers counts (fresh homes) case_e ≡ case_e_answers
+unfolding answers_now dominates lawful like knowing pair_rank counts homes case_e case_e_answers
 case_e_holds = answers_computed counts (knowing 2 (pair_rank 1 0 0) (pair_rank 0 1 1)) (knowing_agrees 2 (pair_rank 1 0 0) (pair_rank 0 1 1) first_decides) (fresh homes) case_e ∙ refl
 
-pub case_f_holds : answers counts (fresh homes) case_f ≡ case_fanswers
-unfolding answers_now dominates lawful like knowing pair_rank counts homes case_f case_fanswers
+pub case_f_holds : answers counts (fresh homes) case_f ≡ case_f_answers
+unfolding answers_now dominates lawful like knowing pair_rank counts homes case_f case_f_answers
 case_f_holds = answers_computed counts (knowing 2 (pair_rank 1 0 0) (pair_rank 0 1 1)) (knowing_agrees 2 (pair_rank 1 0 0) (pair_rank 0 1 1) first_decides) (fresh homes) case_f ∙ refl
 
-pub case_g_holds : answers counts (fresh homes) case_g ≡ case_ganswers
-unfolding answers_now dominates lawful counts homes many_ticks many_done case_g case_ganswers
+pub case_g_holds : answers counts (fresh homes) case_g ≡ case_g_answers
+unfolding answers_now dominates lawful counts homes many_ticks many_done case_g case_g_answers
 case_g_holds = answers_computed counts lawful lawful_agrees (fresh homes) case_g ∙ refl
 
 -- after the tick that is refused the clock is still 16, after the one that passes it is 17

@@ -50,8 +50,8 @@ stable_after l = ((ends counts (fresh homes) l).shelf 1 0).stable 0
 unfoldable pub case_d : List Call
 case_d = listing ++ (write 1 0 (day 40) ∷ [])
 
-unfoldable pub case_danswers : List Answer
-case_danswers = listing_answers ++ (current 1 ∷ [])
+unfoldable pub case_d_answers : List Answer
+case_d_answers = listing_answers ++ (current 1 ∷ [])
 
 -- (e) or, at the listing's end but with its last read left out, crew 1 writes bearing 0: superseded, and 20 stays
 unfoldable pub case_e : List Call
@@ -60,8 +60,8 @@ case_e =
     ∷ (write 1 0 (day 40) ∷ (read 1 0
     ∷ [])))))))))))
 
-unfoldable pub case_eanswers : List Answer
-case_eanswers =
+unfoldable pub case_e_answers : List Answer
+case_e_answers =
     reads (read_unwritten (pair 0 0)) ∷ (current 1 ∷ (refused 8 ∷ (done ∷ (current 2 ∷ (done ∷ (done ∷ (reads (read_unwritten (pair 0 0)) ∷ (done ∷ (done
     ∷ (superseded 1 ∷ (reads (read_value (day 20) (pair 1 0))
     ∷ [])))))))))))
@@ -83,8 +83,8 @@ case_f =
     ++ (refreshes_and_ticks
     ++ (read 0 0 ∷ (read 1 0 ∷ []))))))
 
-unfoldable pub case_fanswers : List Answer
-case_fanswers =
+unfoldable pub case_f_answers : List Answer
+case_f_answers =
     (current 1 ∷ (current 1 ∷ []))
     ++ ((done ∷ (refused 7 ∷ (refused 7 ∷ (done ∷ (refused 7 ∷ (refused 7 ∷ []))))))
     ++ (eight_done
@@ -104,8 +104,8 @@ many_done (suc n) = done ∷ many_done n
 unfoldable pub case_g : List Call
 case_g = many_ticks 17 ++ (take 1 0 0 ∷ (tick 0 0 ∷ []))
 
-unfoldable pub case_ganswers : List Answer
-case_ganswers = many_done 16 ++ (refused 9 ∷ (done ∷ (done ∷ [])))
+unfoldable pub case_g_answers : List Answer
+case_g_answers = many_done 16 ++ (refused 9 ∷ (done ∷ (done ∷ [])))
 
 -- the clock of depot 0 shelf 0 after a history, newest call first
 unfoldable pub clock_after : List Call → ℕ
@@ -155,10 +155,10 @@ pub record CasesHold : Type 0 where
   pub listed : answers counts (fresh homes) listing ≡ listing_answers
   pub c_before : stable_after listing_to_b ≡ 1
   pub c_after : stable_after listing ≡ 2
-  pub d : answers counts (fresh homes) case_d ≡ case_danswers
-  pub e : answers counts (fresh homes) case_e ≡ case_eanswers
-  pub f : answers counts (fresh homes) case_f ≡ case_fanswers
-  pub g : answers counts (fresh homes) case_g ≡ case_ganswers
+  pub d : answers counts (fresh homes) case_d ≡ case_d_answers
+  pub e : answers counts (fresh homes) case_e ≡ case_e_answers
+  pub f : answers counts (fresh homes) case_f ≡ case_f_answers
+  pub g : answers counts (fresh homes) case_g ≡ case_g_answers
   pub g_full : clock_after (many_ticks 17) ≡ 16
   pub g_again : clock_after (tick 0 0 ∷ (take 1 0 0 ∷ many_ticks 17)) ≡ 17
   pub dates : answers counts (fresh homes) case_dates ≡ case_dates_answers
