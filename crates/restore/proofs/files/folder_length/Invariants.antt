@@ -1,0 +1,9 @@
+-- the place counts down from the path's length
+use Rattle.std.proofs.Common.{◌≤◌, length}
+use Rattle.restore.proofs.files.folder_length.Given as goal
+
+abbrev pub invariant-loop-i : goal.invariant-loop-i
+invariant-loop-i l = l.i ≤ length l.path
+
+abbrev pub decreases-loop-i : goal.decreases-loop-i
+decreases-loop-i l = l.i
