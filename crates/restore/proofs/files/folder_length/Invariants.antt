@@ -1,5 +1,4 @@
--- What the loop keeps, and what falls. Answers.antt has the idea.
--- Assumes nothing.
+-- the place counts down from the path's length
 use Rattle.std.proofs.Common.{◌≤◌, length}
 use Rattle.restore.proofs.files.folder_length.Given as goal
 
