@@ -1,5 +1,6 @@
 -- `frame_form::message_at` meets its contract: by the kind.
 -- Assumes nothing.
+use mathlib.Core.List.{[]}
 use native.Mathlib.Omega.{arith}
 use mathlib.Core.Path.{◌∙◌, sym, ap}
 use lib.ListN.{get_or}

@@ -1,7 +1,7 @@
 -- `making::made_copy` meets its contract: the fields of the version, in their places.
 -- Assumes nothing.
 use mathlib.Core.Path.{◌∙◌}
-use mathlib.Core.List.{◌∷◌}
+use mathlib.Core.List.{[], ◌∷◌}
 use lib.ListN.{get_or}
 use Rattle.book.specs.Layout.{copy_kind}
 use Rattle.card.specs.Card.{word_of}

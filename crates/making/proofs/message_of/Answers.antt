@@ -1,6 +1,6 @@
 -- `making::message_of` meets its contract: the fields of the version in their places, the card as its two words.
 -- Assumes nothing.
-use mathlib.Core.List.{◌∷◌}
+use mathlib.Core.List.{[], ◌∷◌}
 use lib.ListN.{get_or}
 use Rattle.book.specs.Layout.{copy_kind}
 use Rattle.making.proofs.message_of.Goals as goal

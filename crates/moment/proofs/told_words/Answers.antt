@@ -2,7 +2,7 @@
 -- Assumes nothing.
 use Prim.Native.Nat.{ℕ}
 use mathlib.Core.Path.{◌≡◌, ◌∙◌, sym, ap}
-use mathlib.Core.List.{List, ◌∷◌}
+use mathlib.Core.List.{[], List, ◌∷◌}
 use lib.ListN.{get_or}
 use Rattle.order.specs.Record.{value_of, diameter_of, width_of, vector_of}
 use Rattle.order.specs.Vector.{zeros}

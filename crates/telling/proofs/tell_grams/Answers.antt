@@ -2,7 +2,7 @@
 -- Assumes nothing.
 use Prim.Native.Nat.{ℕ}
 use mathlib.Core.Path.{sym, ◌∙◌, ap, ap₂}
-use mathlib.Core.List.{◌∷◌}
+use mathlib.Core.List.{[], ◌∷◌}
 use Rattle.card.specs.declared.GramsAnswer.{GramsAnswer}
 use Rattle.card.specs.Card.{grams_number}
 use Rattle.room.specs.Room.{filled}

@@ -3,7 +3,7 @@
 use Prim.Native.Nat.{ℕ, ◌+◌}
 use native.Mathlib.Nat.{add-zero}
 use mathlib.Core.Path.{◌∙◌, sym, ap}
-use mathlib.Core.List.{◌∷◌}
+use mathlib.Core.List.{[], ◌∷◌}
 use lib.ListN.{get_or}
 use Rattle.register.proofs.home.crew_vector.Goals as goal
 

@@ -1,6 +1,6 @@
 -- `register::calls::home::cut_vector` meets its contract: entry by entry.
 -- Assumes nothing.
-use mathlib.Core.List.{◌∷◌}
+use mathlib.Core.List.{[], ◌∷◌}
 use Rattle.register.specs.Answers.{cut}
 use Rattle.register.proofs.home.cut_vector.Goals as goal
 

@@ -2,7 +2,7 @@
 -- Assumes nothing.
 use native.Mathlib.Omega.{arith}
 use mathlib.Core.Path.{◌∙◌}
-use mathlib.Core.List.{◌∷◌}
+use mathlib.Core.List.{[], ◌∷◌}
 use lib.ListN.{length-set}
 use Rattle.line.proofs.PrintLaws.{room_first, room_then, wrote_then, wrote_byte}
 use Rattle.report.specs.Report.{ended, numbered}

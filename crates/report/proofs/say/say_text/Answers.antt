@@ -1,7 +1,7 @@
 -- `report::say::say_text` meets its contract: the text, and then the line feed.
 -- Assumes nothing.
 use native.Mathlib.Omega.{arith}
-use mathlib.Core.List.{◌∷◌}
+use mathlib.Core.List.{[], ◌∷◌}
 use Rattle.line.proofs.PrintLaws.{room_first, room_then, wrote_then, wrote_byte}
 use Rattle.report.specs.Report.{ended}
 use Rattle.report.proofs.say.say_text.Goals as goal
