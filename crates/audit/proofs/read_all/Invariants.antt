@@ -1,4 +1,5 @@
--- the buffers hold what was read
+-- What the loop keeps: the buffers hold what was read. Answers.antt has the rest.
+-- Assumes nothing.
 use Rattle.history.specs.Stream.{Seen}
 use Rattle.audit.proofs.read_all.Given as goal
 
