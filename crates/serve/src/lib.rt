@@ -104,6 +104,8 @@ fn turn<I: Read, O: Write, F: Write + Seek + OpenFile>(
     ensures holder { IfOk result (λ told. Holder line.new × (line_in line.new ≡ line_piece (line_in line.old) (take told.count input.new))) }
     ensures book_stays { OnErr result (book.new ≡ book.old) }
     ensures line_stays { OnErr result (line.new ≡ line.old) }
+    ensures out_stays { OnErr result (out.new ≡ out.old) }
+    ensures log_stays { OnErr result (log.new ≡ log.old) }
 {
     let n = from.read(input)?;
     let at = keep_piece(book, line, &input[..n], out, log);
