@@ -4,4 +4,4 @@ use Rattle.stream.proofs.Theorems.{began_zeros}
 use Rattle.keeper.proofs.keep_from_image.Goals as goal
 
 pub keep_behind-requires : goal.keep_behind-requires
-keep_behind-requires c = began_zeros
+keep_behind-requires g c = began_zeros

@@ -4,4 +4,4 @@ use Rattle.stream.proofs.Theorems.{began_zeros}
 use Rattle.serve.proofs.serve.Goals as goal
 
 pub serve_on-requires : goal.serve_on-requires
-serve_on-requires c = began_zeros
+serve_on-requires g c = began_zeros

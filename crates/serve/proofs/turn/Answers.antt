@@ -5,7 +5,7 @@ use lib.Seq.{length-take-le}
 use Rattle.serve.proofs.turn.Goals as goal
 
 pub slice_bounds-keep_records-end-2 : goal.slice_bounds-keep_records-end-2
-slice_bounds-keep_records-end-2 c = sym (length-take-le _ _ c.keep_piece-at.ensures.out_in_bounds.1)
+slice_bounds-keep_records-end-2 g c = sym (length-take-le _ _ c.keep_piece-at.ensures.out_in_bounds.1)
 
 pub slice_bounds-write_answers-end-2 : goal.slice_bounds-write_answers-end-2
-slice_bounds-write_answers-end-2 c = sym (length-take-le _ _ c.keep_piece-at.ensures.out_in_bounds.0)
+slice_bounds-write_answers-end-2 g c = sym (length-take-le _ _ c.keep_piece-at.ensures.out_in_bounds.0)

@@ -4,4 +4,4 @@ use Rattle.stream.proofs.Theorems.{began_zeros}
 use Rattle.snapshot.proofs.save_behind_image.Goals as goal
 
 pub save_behind-requires : goal.save_behind-requires
-save_behind-requires c = began_zeros
+save_behind-requires g c = began_zeros
