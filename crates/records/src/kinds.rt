@@ -20,7 +20,6 @@ pub struct Shape {
 }
 
 // The kind that a number names.
-#[tactic(auto, unfolding(journal::specs::Record::byte_of))]
 pub fn kind_of(n: u32) -> Named
     ensures { result ≡ named_by (kind_of n) }
 {
@@ -38,6 +37,7 @@ pub fn kind_of(n: u32) -> Named
 }
 
 // The byte that names a kind.
+#[tactic(auto, unfolding(journal::specs::Record::byte_of))]
 pub fn byte_of(kind: Kind) -> u8
     ensures { result ≡ byte_of kind }
 {
