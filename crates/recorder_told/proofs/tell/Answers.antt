@@ -21,5 +21,4 @@ returns c =
     c.write_words.ensures ∙ ap (λ (w : List ℕ). put c.args.out.now 0 (c.args.size ∷ w)) c.answer_words-words.ensures
 
 pub shape_of-out : goal.shape_of-out
-unfolding put
-shape_of-out c = ap length (c.write_words.ensures ∙ ap (λ (w : List ℕ). put c.args.out.now 0 (c.args.size ∷ w)) c.answer_words-words.ensures) ∙ length_put _ _ _
+shape_of-out c = ap length c.write_words.ensures ∙ length_put _ _ _ ∙ simp length-set
