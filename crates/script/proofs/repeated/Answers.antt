@@ -3,9 +3,9 @@
 use Prim.Native.Nat.{◌-◌}
 use native.Mathlib.Omega.{arith}
 use mathlib.Core.Path.{refl, ◌∙◌}
-use mathlib.Core.Logic.{⊎_elim}
 use Rattle.script.proofs.ScriptLaws.{exactly_taken, exactly_left, rerun_start, rerun_more, rerun_done}
 use Rattle.script.proofs.repeated.Goals as goal
+use Rattle.script.proofs.repeated.Goals.{then-runs, else-runs}
 
 pub loop-i-init : goal.loop-i-init
 loop-i-init c = (omega arith, refl, refl, rerun_start _ _)
@@ -20,13 +20,12 @@ pub loop-i-preserved : goal.loop-i-preserved
 loop-i-preserved c =
     let call = c.runs in
     let inv = c.loop-i.invariant in
-    let all =
-    ⊎_elim
-    (λ w. exactly_taken call.ensures.exactly w.0.taken w.1)
-    (λ w. exactly_left call.ensures.exactly w.0.left w.1)
-    c.if-runs.branch
-    in
-    (omega (arith, c.loop-i-test.true), call.auto.book ∙ inv.1, call.auto.out ∙ inv.2, rerun_more inv.3 call.ensures.book_after all)
+    (
+      omega (arith, c.loop-i-test.true),
+      call.auto.book ∙ inv.1,
+      call.auto.out ∙ inv.2,
+      rerun_more inv.3 call.ensures.book_after (elim c.if-runs.branch [ then-runs w ↦ exactly_taken call.ensures.exactly w.if-runs.true w.good-is | else-runs w ↦ exactly_left call.ensures.exactly w.if-runs.false w.good-is ]),
+    )
 
 pub shape_of-book : goal.shape_of-book
 shape_of-book c = c.loop-i.invariant.1

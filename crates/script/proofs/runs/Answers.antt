@@ -12,7 +12,7 @@ use Rattle.script.proofs.runs.Reads as reads
 
 -- what is known at a place, for the lemmas below
 abbrev After-line_after-stop : Type 0
-After-line_after-stop = lts.After-line_after2 tie.the-claims reads.Pre reads.Post goal.the-invariant-loop-at goal.the-decreases-loop-at
+After-line_after-stop = lts.After-line_after2 tie.the-claims reads.Pre reads.Post goal.the-invariant-loop-at goal.the-decreases-loop-at tie.handed_clauses
 
 pub loop-at-init : goal.loop-at-init
 loop-at-init c = (refl, refl, far_start _ _)
