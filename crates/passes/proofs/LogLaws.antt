@@ -129,6 +129,7 @@ module _ (S : System) where
       let x = made_logged g m in
       let k = length-append es new in
       (x.0, omega (arith, x.1), get_or-append es new nobody x.0 x.1 ∙ x.2)
+  made_logged {g = g} {b = b} {w = w} nothing m = elim m [ ]
 
   -- what was made, and what is in a crew's past, stays so
   pub made_later : (l : List Call) {h g : List Call} {b : ℕ} {w : Write} → MadeAt S h g b w → MadeAt S (l ++ h) g b w

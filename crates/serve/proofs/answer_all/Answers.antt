@@ -9,3 +9,6 @@ turn-requires g c = (c.pieces.invariant.holder, omega (arith, c.requires.1), ome
 
 pub pieces-preserved : goal.pieces-preserved
 pieces-preserved g c = served_more _ c.pieces.invariant c.in_ok-told.ensures.book_after c.in_ok-told.ensures.holder
+
+pub returns-then-not-told : goal.returns-then-not-told
+returns-then-not-told g c = served_more _ c.pieces.invariant c.in_ok-told.ensures.book_after c.in_ok-told.ensures.holder

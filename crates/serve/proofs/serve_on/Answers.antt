@@ -15,3 +15,6 @@ answer_all-requires g c = (
   subst (λ (m : ℕ). answer_room * 4097 ≤ m) (sym (length-replicate {A = ℕ} (answer_room * 4097) 0)) (lit≤ tt),
   subst (λ (m : ℕ). record_room * 4097 ≤ m) (sym (length-replicate {A = ℕ} (record_room * 4097) 0)) (lit≤ tt),
 )
+
+pub slice_bounds-answer_all-end-3 : goal.slice_bounds-answer_all-end-3
+slice_bounds-answer_all-end-3 g c = sym (length-replicate {A = ℕ} (answer_room * 4097) 0)

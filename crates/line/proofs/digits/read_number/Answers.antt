@@ -6,7 +6,6 @@ use borrow.Author.Rules.{rules}
 use Rattle.line.proofs.DigitLaws.{run_inside}
 use Rattle.line.proofs.NumberLaws.{found_no_digit, found_too_long, found_spare_zero, found_too_large, found_number}
 use Rattle.line.proofs.digits.read_number.Goals as goal
-use Rattle.line.proofs.digits.read_number.Goals.{then-n-gt1+else-s-at-eq48, else-n-gt1}
 
 pub returns-then-n-eq0 : goal.returns-then-n-eq0
 returns-then-n-eq0 c = found_no_digit _ _ c.digits_at-n.ensures c.if-n-eq0.true
@@ -22,7 +21,7 @@ bounds-s-at c =
     omega (arith, called)
 
 pub returns-then-s-at-eq48 : goal.returns-then-s-at-eq48
-returns-then-s-at-eq48 c = found_spare_zero _ _ c.digits_at-n.ensures c.if-n-gt1.true c.if-s-at-eq48.true
+returns-then-s-at-eq48 c = found_spare_zero _ _ c.digits_at-n.ensures (omega arith) c.if-s-at-eq48.true
 
 pub value_at-v-requires : goal.value_at-v-requires
 value_at-v-requires c = search rules
@@ -43,5 +42,5 @@ returns c =
     c.value_at-v.ensures
     c.if-n-eq0.false
     c.if-n-gt-MOST_DIGITS.false
-    (elim c.if-n-gt1.branch [ then-n-gt1+else-s-at-eq48 w ↦ inr w.if-s-at-eq48.false | else-n-gt1 w ↦ inl w.if-n-gt1.false ])
+    (grind arith)
     c.if-v-gt-MOST_NUMBER.false
