@@ -19,8 +19,7 @@ loop-i-smaller c = omega (arith, c.loop-i-test.true)
 pub loop-i-preserved : goal.loop-i-preserved
 loop-i-preserved c =
     let call = c.runs in
-    let inv = c.loop-i.invariant in
-    (
+    let inv = c.loop-i.invariant in (
       omega (arith, c.loop-i-test.true),
       call.auto.book ∙ inv.1,
       call.auto.out ∙ inv.2,

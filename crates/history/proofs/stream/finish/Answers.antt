@@ -10,5 +10,8 @@ returns-then-kept-eq0 c =
     record { fits = told.0; result_after = told.1 }
 
 pub returns : goal.returns
-returns c = record { fits = c.end_line-place.ensures.fits; result_after = c.end_line-place.ensures.kept_value.1 ∙ finished_last _ _ _ _
-      c.requires c.if-kept-eq0.false }
+returns c = record {
+  fits = c.end_line-place.ensures.fits;
+  result_after = c.end_line-place.ensures.kept_value.1 ∙ finished_last _ _ _ _
+      c.requires c.if-kept-eq0.false;
+}

@@ -28,10 +28,10 @@ bounds-out-last c =
 pub overflow_add-result : goal.overflow_add-result
 unfolding ended numbered
 overflow_add-result c = omega (
-      arith,
-      (room_then (10 ∷ []) c.requires
-          (wrote_then c.print_text-next.ensures c.print_number-last.ensures)).room,
-    )
+  arith,
+  (room_then (10 ∷ []) c.requires
+      (wrote_then c.print_text-next.ensures c.print_number-last.ensures)).room,
+)
 
 pub shape_of-out : goal.shape_of-out
 shape_of-out c = simp length-set (c.print_number-last.auto.out ∙ c.print_text-next.auto.out)
