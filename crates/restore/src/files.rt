@@ -1,4 +1,4 @@
-// Files by their names, which are any bytes, and the folders that files lie in.
+// Files by their names, and the folders that files lie in. A name is text in UTF-8; another is refused, and no file is touched.
 ghost use Rattle.std.specs.Prelude.{◌≡◌, ◌≤◌, length, take};
 
 use std::fs::{Files, OpenFile, OpenOptions};

@@ -1,4 +1,5 @@
--- the place counts down from the path's length
+-- What the loop keeps, and what falls: the place counts down from the path's length. Answers.antt has the rest.
+-- Assumes nothing.
 use Rattle.std.proofs.Common.{◌≤◌, length}
 use Rattle.restore.proofs.files.folder_length.Given as goal
 

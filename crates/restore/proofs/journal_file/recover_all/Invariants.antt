@@ -1,4 +1,5 @@
--- the book is one that a desk may begin with
+-- What the loop keeps: the book is one that a desk may begin with.
+-- Assumes nothing.
 use Rattle.stream.specs.Stream.{Began}
 use Rattle.restore.proofs.journal_file.recover_all.Given as goal
 
