@@ -19,7 +19,11 @@ returns-in_default c =
     let wide = c.if-out-lt-LIST_WORDS.false in
     let p = c.list-answer.ensures in
     let e = c.in_default.is in
-    record { value = list_number_law p plain.Answer.Done e ∙ with_room _ _ _ _ wide; book_after = list_book_law p ∙ with_room _ _ _ _ wide; out_after = c.fill.ensures ∙ done_words p e _ ∙ with_room _ _ _ _ wide }
+    record {
+      value = list_number_law p plain.Answer.Done e ∙ with_room _ _ _ _ wide;
+      book_after = list_book_law p ∙ with_room _ _ _ _ wide;
+      out_after = c.fill.ensures ∙ done_words p e _ ∙ with_room _ _ _ _ wide;
+    }
 
 pub returns : goal.returns
 unfolding number_in paper_listed
@@ -27,4 +31,8 @@ returns c =
     let wide = c.if-out-lt-LIST_WORDS.false in
     let p = c.list-answer.ensures in
     let e = c.in-Refused.is in
-    record { value = c.number_of.ensures ∙ list_number_law p _ e ∙ with_room _ _ _ _ wide; book_after = list_book_law p ∙ with_room _ _ _ _ wide; out_after = refused_words p _ e _ ∙ with_room _ _ _ _ wide }
+    record {
+      value = c.number_of.ensures ∙ list_number_law p _ e ∙ with_room _ _ _ _ wide;
+      book_after = list_book_law p ∙ with_room _ _ _ _ wide;
+      out_after = refused_words p _ e _ ∙ with_room _ _ _ _ wide;
+    }

@@ -23,7 +23,11 @@ loop-i-preserved c =
       omega (arith, c.loop-i-test.true),
       call.auto.book ∙ inv.1,
       call.auto.out ∙ inv.2,
-      rerun_more inv.3 call.ensures.book_after (elim c.if-runs.branch [ then-runs w ↦ exactly_taken call.ensures.exactly w.if-runs.true w.good-is | else-runs w ↦ exactly_left call.ensures.exactly w.if-runs.false w.good-is ]),
+      rerun_more inv.3 call.ensures.book_after
+          (elim c.if-runs.branch [
+            | then-runs w ↦ exactly_taken call.ensures.exactly w.if-runs.true w.good-is
+            | else-runs w ↦ exactly_left call.ensures.exactly w.if-runs.false w.good-is
+          ]),
     )
 
 pub shape_of-book : goal.shape_of-book

@@ -32,10 +32,22 @@ pub returns-then-kept-lt-KEPT_BYTES : goal.returns-then-kept-lt-KEPT_BYTES
 returns-then-kept-lt-KEPT_BYTES c =
     let other = c.if-byte-eq-LINE_FEED.false in
     let few = held_length c.requires.0 in
-    let more = held_more c.requires.0 c.args.byte c.if-kept-lt-KEPT_BYTES.true in record { book_after = sym (book_stays _ _ _ other); holder = (more.0, more.1 ∙ sym (line_grows _ _ other (omega (arith, few, c.if-kept-lt-KEPT_BYTES.true)))); wrote = wrote_same (sym (gives_nothing _ _ _ _ other)) (wrote_nothing _ _); wrote_2 = wrote_same (sym (gives_nothing _ _ _ _ other)) (wrote_nothing _ _) }
+    let more = held_more c.requires.0 c.args.byte c.if-kept-lt-KEPT_BYTES.true in
+    record {
+      book_after = sym (book_stays _ _ _ other);
+      holder = (more.0, more.1 ∙ sym (line_grows _ _ other (omega (arith, few, c.if-kept-lt-KEPT_BYTES.true))));
+      wrote = wrote_same (sym (gives_nothing _ _ _ _ other)) (wrote_nothing _ _);
+      wrote_2 = wrote_same (sym (gives_nothing _ _ _ _ other)) (wrote_nothing _ _);
+    }
 
 pub returns-else-kept-lt-KEPT_BYTES : goal.returns-else-kept-lt-KEPT_BYTES
 returns-else-kept-lt-KEPT_BYTES c =
     let other = c.if-byte-eq-LINE_FEED.false in
     let holder = c.requires.0 in
-    let few = held_length holder in record { book_after = sym (book_stays _ _ _ other); holder = (holder, sym (line_full _ _ other (omega (arith, few, c.if-kept-lt-KEPT_BYTES.false)))); wrote = wrote_same (sym (gives_nothing _ _ _ _ other)) (wrote_nothing _ _); wrote_2 = wrote_same (sym (gives_nothing _ _ _ _ other)) (wrote_nothing _ _) }
+    let few = held_length holder in
+    record {
+      book_after = sym (book_stays _ _ _ other);
+      holder = (holder, sym (line_full _ _ other (omega (arith, few, c.if-kept-lt-KEPT_BYTES.false))));
+      wrote = wrote_same (sym (gives_nothing _ _ _ _ other)) (wrote_nothing _ _);
+      wrote_2 = wrote_same (sym (gives_nothing _ _ _ _ other)) (wrote_nothing _ _);
+    }

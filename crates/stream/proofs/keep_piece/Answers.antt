@@ -17,7 +17,14 @@ returns-then-piece-eq0 c =
     let end = piece_end _ _ _ none in
     let done = c.finish.ensures in
     let said = wrote_same (sym (piece_gives_end answer_to _ _ _ none)) done.wrote in
-    let logged = wrote_same (sym (piece_gives_end record_to _ _ _ none)) done.wrote_2 in record { book_after = done.book_after ∙ sym end.0; holder = (done.holder.0, done.holder.1 ∙ sym end.1); wrote = said; wrote_2 = logged; out_in_bounds = (piece_room answers_most _ _ _ said pre.1, piece_room records_most _ _ _ logged pre.2) }
+    let logged = wrote_same (sym (piece_gives_end record_to _ _ _ none)) done.wrote_2 in
+    record {
+      book_after = done.book_after ∙ sym end.0;
+      holder = (done.holder.0, done.holder.1 ∙ sym end.1);
+      wrote = said;
+      wrote_2 = logged;
+      out_in_bounds = (piece_room answers_most _ _ _ said pre.1, piece_room records_most _ _ _ logged pre.2);
+    }
 
 pub feed-requires : goal.feed-requires
 feed-requires c = let pre = c.requires in (pre.0, omega (arith, pre.1), omega (arith, pre.2))
@@ -29,4 +36,11 @@ returns c =
     let some = piece_some _ _ _ not_None in
     let done = c.feed.ensures in
     let said = wrote_same (sym (piece_gives answer_to _ _ _ not_None)) done.wrote in
-    let logged = wrote_same (sym (piece_gives record_to _ _ _ not_None)) done.wrote_2 in record { book_after = done.book_after ∙ sym some.0; holder = (done.holder.0, done.holder.1 ∙ sym some.1); wrote = said; wrote_2 = logged; out_in_bounds = (piece_room answers_most _ _ _ said pre.1, piece_room records_most _ _ _ logged pre.2) }
+    let logged = wrote_same (sym (piece_gives record_to _ _ _ not_None)) done.wrote_2 in
+    record {
+      book_after = done.book_after ∙ sym some.0;
+      holder = (done.holder.0, done.holder.1 ∙ sym some.1);
+      wrote = said;
+      wrote_2 = logged;
+      out_in_bounds = (piece_room answers_most _ _ _ said pre.1, piece_room records_most _ _ _ logged pre.2);
+    }

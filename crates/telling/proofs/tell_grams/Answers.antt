@@ -11,7 +11,11 @@ use Rattle.telling.specs.Told.{grams_out}
 use Rattle.telling.proofs.tell_grams.Goals as goal
 
 pub returns-then-out-lt-GRAMS_WORDS : goal.returns-then-out-lt-GRAMS_WORDS
-returns-then-out-lt-GRAMS_WORDS c = let short = c.if-out-lt-GRAMS_WORDS.true in record { value = no_room_law _ _ _ _ short; out_after = no_room_law _ _ _ _ short }
+returns-then-out-lt-GRAMS_WORDS c = let short = c.if-out-lt-GRAMS_WORDS.true in
+    record {
+      value = no_room_law _ _ _ _ short;
+      out_after = no_room_law _ _ _ _ short;
+    }
 
 pub returns-in_default : goal.returns-in_default
 unfolding grams_number grams_out
@@ -19,7 +23,10 @@ returns-in_default c =
     let wide = c.if-out-lt-GRAMS_WORDS.false in
     let none = sym c.in_default.is ∙ c.grams.ensures in
     let out = c.args.out.now in
-    record { value = ap grams_number none ∙ with_room _ _ _ _ wide; out_after = filled_none _ ∙ ap (λ (a : GramsAnswer). filled (grams_out a) out) none ∙ with_room _ _ _ _ wide }
+    record {
+      value = ap grams_number none ∙ with_room _ _ _ _ wide;
+      out_after = filled_none _ ∙ ap (λ (a : GramsAnswer). filled (grams_out a) out) none ∙ with_room _ _ _ _ wide;
+    }
 
 pub returns : goal.returns
 unfolding grams_number grams_out
@@ -27,4 +34,8 @@ returns c =
     let wide = c.if-out-lt-GRAMS_WORDS.false in
     let some = sym c.in-Of.is ∙ c.grams.ensures in
     let out = c.args.out.now in
-    let words = ap₂ (λ (a b : ℕ). filled (a ∷ b ∷ []) out) c.low_word.ensures c.high_word.ensures in record { value = ap grams_number some ∙ with_room _ _ _ _ wide; out_after = c.fill.ensures ∙ words ∙ ap (λ (a : GramsAnswer). filled (grams_out a) out) some ∙ with_room _ _ _ _ wide }
+    let words = ap₂ (λ (a b : ℕ). filled (a ∷ b ∷ []) out) c.low_word.ensures c.high_word.ensures in
+    record {
+      value = ap grams_number some ∙ with_room _ _ _ _ wide;
+      out_after = c.fill.ensures ∙ words ∙ ap (λ (a : GramsAnswer). filled (grams_out a) out) some ∙ with_room _ _ _ _ wide;
+    }

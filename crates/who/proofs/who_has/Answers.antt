@@ -103,7 +103,8 @@ pub returns-then-not-stores_fit : goal.returns-then-not-stores_fit
 unfolding number_of
 returns-then-not-stores_fit c =
     who_refused _ _ _ BadBook
-    (who_parts_law _ _ _ (base c.before.before.before.before.before.before.before.before) (depot_known c.before.before.before.before.before).0 (bearing_known c.before.before.before).0 (test_failed (parts_said c.before.before) c.if-not-stores_fit.true-raw))
+    (who_parts_law _ _ _ (base c.before.before.before.before.before.before.before.before) (depot_known c.before.before.before.before.before).0
+    (bearing_known c.before.before.before).0 (test_failed (parts_said c.before.before) c.if-not-stores_fit.true-raw))
 
 pub mask_of-mask-requires : goal.mask_of-mask-requires
 mask_of-mask-requires c =
@@ -120,5 +121,7 @@ pub returns : goal.returns
 returns c =
     let depot = depot_known c.before.before.before.before.before.before in
     let bearing = bearing_known c.before.before.before.before in
-    who_done _ _ _ (who_good _ _ _ (base c.before.before.before.before.before.before.before.before.before) depot.0 bearing.0 (test_passed (parts_said c.before.before.before) c.if-not-stores_fit.false-raw))
+    who_done _ _ _
+    (who_good _ _ _ (base c.before.before.before.before.before.before.before.before.before) depot.0 bearing.0
+    (test_passed (parts_said c.before.before.before) c.if-not-stores_fit.false-raw))
     c.counts_of-n.ensures depot.1 bearing.1 c.mask_of-mask.ensures
