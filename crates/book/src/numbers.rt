@@ -5,7 +5,7 @@ ghost use Rattle.std.specs.Prelude.{◌≡◌, ◌<◌, ltb};
 ghost use Rattle.loops.specs.Loops.{pick};
 
 // A depot of a register.
-#[derive(Clone, Copy)]
+#[derive(Clone, Copy, PartialEq, Eq)]
 pub struct Depot(usize);
 
 // A number that arrived, checked as a depot's.
@@ -44,7 +44,7 @@ impl Depot {
 }
 
 // A shelf of each depot.
-#[derive(Clone, Copy)]
+#[derive(Clone, Copy, PartialEq, Eq)]
 pub struct Shelf(usize);
 
 // A number that arrived, checked as a shelf's.
@@ -83,7 +83,7 @@ impl Shelf {
 }
 
 // A bearing.
-#[derive(Clone, Copy)]
+#[derive(Clone, Copy, PartialEq, Eq)]
 pub struct Bearing(usize);
 
 // A number that arrived, checked as a bearing's.
@@ -122,7 +122,7 @@ impl Bearing {
 }
 
 // A crew.
-#[derive(Clone, Copy)]
+#[derive(Clone, Copy, PartialEq, Eq)]
 pub struct Crew(usize);
 
 // A number that arrived, checked as a crew's.

@@ -1,2 +1,3 @@
 pub mod BoolLaws
+pub mod ChainLaws
 pub mod LoopLaws
