@@ -2,14 +2,15 @@
 -- writer leaves alone comes from `put_other`.
 -- Assumes nothing.
 use Prim.Native.Nat.{ℕ, zero, suc, ◌+◌, ◌-◌, ◌≤◌, ◌<◌, min}
-use native.Mathlib.Nat.{add-zero, add-suc, suc-add, le_refl, le_of_lt, sub-zero, zero-sub, suc-sub-suc}
+use native.Mathlib.Nat.{add-zero, add-suc, suc-add, le_refl, sub-zero, zero-sub, suc-sub-suc}
 use native.Mathlib.Numerals.{add-one}
 use native.Mathlib.Omega.{arith}
 use mathlib.Core.Path.{◌≡◌, refl, sym, ◌∙◌, ap, subst}
 use mathlib.Core.Logic.{◌⊎◌, inl, inr}
-use mathlib.Core.List.{List, [], ◌∷◌, ◌++◌}
-use lib.ListN.{length, get_or, take, drop, set, replicate, length-take, length-drop, length-set, length-replicate, replicate-append-replicate}
-use lib.Seq.{sets, length-sets, get_or-take, get_or-drop, get_or-set_same, get_or-set_other, take-suc, length-take-le, take-take, take-nil, drop-drop, ext_get_or}
+use mathlib.Core.List.{List, [], ◌∷◌, ◌++◌, append_assoc}
+use lib.ListN.{length, get_or, take, drop, set, length-take, length-drop, length-set}
+use lib.Seq.{paste, sets, sets-eq, length-sets, get_or-take, get_or-drop, get_or-set_same, get_or-set_other, take-suc, take-take, take-nil, drop-drop, ext_get_or}
+use borrow.Rule.Slice.PartMut.{put_mid}
 use Rattle.loops.proofs.BoolLaws.{le_or_lt}
 use Rattle.book.specs.Words.{part, put, Apart, Forward}
 
@@ -114,14 +115,28 @@ pub put_other : (l : List ℕ) (a : ℕ) (v : List ℕ) (b n : ℕ) → Apart a 
 put_other l a v b n (inl p) = part_same _ l b n (length_put l a v) λ i h. put_out l a v (b + i) (inr (omega arith))
 put_other l a v b n (inr p) = part_same _ l b n (length_put l a v) λ i h. put_out l a v (b + i) (inl (omega arith))
 
+-- ---- what a write to a run of words leaves is that run put there
+
+pub put_is : (l : List ℕ) (a : ℕ) (v : List ℕ) → a + length v ≤ length l → put l a v ≡ take a l ++ v ++ drop (a + length v) l
+unfolding put
+put_is l a v room = sets-eq v l a room
+
+pub put_run : (l : List ℕ) (a k : ℕ) (v : List ℕ) {w : List ℕ} → w ≡ v → k ≡ length v → a + length v ≤ length l → put_mid a k l w ≡ put l a v
+put_run l a k v e size room =
+    rw (e, size)
+    (ap (λ (d : List ℕ). take a l ++ (v ++ d)) (drop-drop (length v) a l) ∙ sym (append_assoc (take a l) v (drop (a + length v) l)) ∙ sym (put_is l a v room))
+
+pub put_copied : (l : List ℕ) (a e c n : ℕ) → e ≡ a + n → a + n ≤ length l → c + n ≤ length l → paste l c (drop a l) (e - a) ≡ put l c (part l a n)
+put_copied l a e c n end room there =
+    let size = length_part l a n room in
+    ap (λ (v : List ℕ). take c l ++ v ++ drop (c + (e - a)) l) (part_lent l a e n end)
+    ∙ ap (λ (k : ℕ). take c l ++ part l a n ++ drop (c + k) l) (omega (arith, size))
+    ∙ sym (put_is l c (part l a n) (rw size there))
+
 -- ---- the loops that put words one by one
 
 pub put_step : (l : List ℕ) (a : ℕ) (v : List ℕ) (i w : ℕ) {b : List ℕ} → length v ≡ i → b ≡ put l a v → set b (a + i) w ≡ put l a (v ++ w ∷ [])
 put_step l a v i w e h = ap (λ (m : List ℕ). set m (a + i) w) h ∙ ap (λ (k : ℕ). set (put l a v) (a + k) w) (sym e) ∙ put_more l a v w
-
-pub write_step : (l : List ℕ) (a : ℕ) (v : List ℕ) (i : ℕ) {b : List ℕ} → i < length v → b ≡ put l a (take i v) → set b (a + i) (get_or v i 0) ≡ put l a (take (i + 1) v)
-write_step l a v i h q =
-    put_step l a (take i v) i (get_or v i 0) (length-take-le i v (le_of_lt h)) q ∙ ap (put l a) (sym (ap (λ (k : ℕ). take k v) (add-one i) ∙ take-suc v i 0 h))
 
 pub copy_step :
     (l : List ℕ) (a c n i : ℕ) {b : List ℕ} → i < n → a + n ≤ length l → Forward a c n → b ≡ put l c (part l a i) →
@@ -137,9 +152,6 @@ copy_step l a c n i {b} h room forward q =
     outside : Forward a c n → (a + i < c) ⊎ (c + length (part l a i) ≤ a + i)
     outside (inl p) = inr (rw size (omega arith))
     outside (inr p) = inl (omega arith)
-
-pub zero_step : (l : List ℕ) (a i : ℕ) {b : List ℕ} → b ≡ put l a (replicate i 0) → set b (a + i) 0 ≡ put l a (replicate (i + 1) 0)
-zero_step l a i q = put_step l a (replicate i 0) i 0 (length-replicate i 0) q ∙ ap (put l a) (replicate-append-replicate i 1 0)
 
 -- a part put where it stands changes nothing
 pub put_itself : (l : List ℕ) (a n : ℕ) → a + n ≤ length l → put l a (part l a n) ≡ l

@@ -2,7 +2,7 @@
 -- Assumes nothing.
 use Prim.Native.Nat.{ℕ, zero, suc, ◌+◌, ◌≤◌, ◌<◌, max}
 use native.Mathlib.Numerals.{add-one}
-use native.Mathlib.Nat.{le_refl, le_step, le_of_lt, max-eq_left, max-eq_right}
+use native.Mathlib.Nat.{le_refl, le_step}
 use native.Mathlib.Omega.{arith}
 use mathlib.Core.Path.{◌≡◌, refl, sym, ◌∙◌, ap, ap₂}
 use mathlib.Core.Logic.{◌⊎◌, inl, inr, ⊎_elim}
@@ -10,12 +10,12 @@ use mathlib.Core.List.{List}
 use mathlib.Core.Bool.{Bool, true, false, ◌||◌}
 use lib.Dec.{leb, eqb}
 use lib.ListN.{length, get_or, set, length-set}
-use lib.Seq.{get_or-set_same, get_or-set_other, set-get_or}
+use lib.Seq.{get_or-set_same, get_or-set_other}
 use borrow.Author.Tests.{le-leb, leb-true, eq-eqb, eqb-true, ne_eqb}
 use Rattle.loops.specs.Loops.{times, pick}
 use Rattle.order.specs.Vector.{Vec, covered, zeros, agree, sum, merge_one, merged_at}
 use Rattle.loops.proofs.BoolLaws.{failed, or_cases, or_left, or_right, le_or_lt, eq_or_ne, pick_true, pick_false}
-use Rattle.loops.proofs.LoopLaws.{times_keeps, every_none, every_more, every_at, every_intro, every_same}
+use Rattle.loops.proofs.LoopLaws.{times_keeps, every_at, every_intro, every_same}
 
 -- covered in all entries but one
 pub covered_at_law : (n d : ℕ) (u v : Vec) → covered n d u v ≡ true → (x : ℕ) → x < n → (x ≡ d → ⊥) → u x ≤ v x
@@ -35,16 +35,7 @@ covered_intro n d u v h =
     (λ (e : x ≡ d → ⊥). or_right (eqb x d) _ (le-leb (u x) (v x) (h x l e)))
     (eq_or_ne x d)
 
--- the same, entry after entry
-pub covered_none : (d : ℕ) (u v : Vec) → covered 0 d u v ≡ true
-unfolding covered
-covered_none d u v = every_none _
-
-pub covered_more : (x d : ℕ) (u v : Vec) → covered x d u v ≡ true → ((x ≡ d → ⊥) → u x ≤ v x) → covered (x + 1) d u v ≡ true
-covered_more x d u v h k =
-    covered_intro (x + 1) d u v λ y l other.
-    ⊎_elim (λ (e : y ≡ x). rw e (k (λ q. other (e ∙ q)))) (λ (e : y ≡ x → ⊥). covered_at_law x d u v h y (omega arith) other) (eq_or_ne y x)
-
+-- an entry that is not covered
 pub covered_stop : (n d : ℕ) (u v : Vec) (x : ℕ) → x < n → (x ≡ d → ⊥) → v x < u x → covered n d u v ≡ false
 covered_stop n d u v x l other h = failed _ λ e. let k = covered_at_law n d u v e x l other in omega arith
 
@@ -60,14 +51,6 @@ zeros_at n u h x l = eqb-true (u x) 0 (every_at n _ h x l)
 pub zeros_intro : (n : ℕ) (u : Vec) → ((x : ℕ) → x < n → u x ≡ 0) → zeros n u ≡ true
 unfolding zeros
 zeros_intro n u h = every_intro n _ λ x l. eq-eqb (u x) 0 (h x l)
-
-pub zeros_none : (u : Vec) → zeros 0 u ≡ true
-unfolding zeros
-zeros_none u = every_none _
-
-pub zeros_more : (x : ℕ) (u : Vec) → zeros x u ≡ true → u x ≡ 0 → zeros (x + 1) u ≡ true
-unfolding zeros
-zeros_more x u h k = every_more x _ h (eq-eqb (u x) 0 k)
 
 -- an entry that is not 0 is written
 pub zeros_stop : (n : ℕ) (u : Vec) (x : ℕ) → x < n → (u x ≡ 0 → ⊥) → zeros n u ≡ false
@@ -138,19 +121,14 @@ sum_nothing (suc n) = ap (λ (t : ℕ). t + 0) (sum_nothing n)
 pub sum_zeros : (n : ℕ) (u : Vec) → zeros n u ≡ true → sum n u ≡ 0
 sum_zeros n u z = sum_same n u (λ x. 0) (zeros_at n u z) ∙ sum_nothing n
 
--- one entry's maximum among words, case by case
+-- one entry's maximum among words: that of depot d stays, and any other becomes the larger
 pub merge_one_own : (d at x v : ℕ) (l : List ℕ) → x ≡ d → l ≡ merge_one d at x v l
 unfolding merge_one
 merge_one_own d at x v l e = sym (pick_true _ _ (eq-eqb x d e))
 
-pub merge_one_up : (d at x v : ℕ) (l : List ℕ) → (x ≡ d → ⊥) → get_or l (at + x) 0 < v → set l (at + x) v ≡ merge_one d at x v l
+pub merge_one_rest : (d at x v : ℕ) (l : List ℕ) {m : ℕ} → (x ≡ d → ⊥) → m ≡ max (get_or l (at + x) 0) v → set l (at + x) m ≡ merge_one d at x v l
 unfolding merge_one
-merge_one_up d at x v l e h = ap (λ (a : ℕ). set l (at + x) a) (sym (max-eq_right (le_of_lt h))) ∙ sym (pick_false _ _ (ne_eqb x d e))
-
-pub merge_one_stays : (d at x v : ℕ) (l : List ℕ) → (x ≡ d → ⊥) → v ≤ get_or l (at + x) 0 → l ≡ merge_one d at x v l
-unfolding merge_one
-merge_one_stays d at x v l e h =
-    sym (set-get_or l (at + x) 0) ∙ ap (λ (a : ℕ). set l (at + x) a) (sym (max-eq_left h)) ∙ sym (pick_false _ _ (ne_eqb x d e))
+merge_one_rest d at x v l e h = ap (λ (a : ℕ). set l (at + x) a) h ∙ sym (pick_false _ _ (ne_eqb x d e))
 
 -- the length stays, and so does every other word
 pub length_merge_one : (d at x v : ℕ) (l : List ℕ) → length (merge_one d at x v l) ≡ length l

@@ -33,15 +33,11 @@ pub fn is_above(a: &[u32], b: &[u32], n: usize) -> bool
     if sum != other {
         return other < sum;
     }
-    let mut x = 0;
-    while x < n {
+    for x in 0..n {
         let place = VECTOR + x;
-        let p = a[place];
-        let q = b[place];
-        if p != q {
-            return q < p;
+        if a[place] != b[place] {
+            return b[place] < a[place];
         }
-        x += 1;
     }
     if a[ORIGIN] <= b[ORIGIN] {
         return false;
@@ -53,11 +49,7 @@ pub fn is_above(a: &[u32], b: &[u32], n: usize) -> bool
 fn entries_for(depots: u32) -> usize
     ensures { result ≡ min depots most_depots }
 {
-    let n = depots as usize;
-    if n < MOST_DEPOTS {
-        return n;
-    }
-    MOST_DEPOTS
+    (depots as usize).min(MOST_DEPOTS)
 }
 
 // Whether b, handed in as a record, is the greater version than a. One of the wrong length counts as unwritten.

@@ -8,16 +8,7 @@ pub fn is_covered(u: &[u32], v: &[u32], n: usize, own: usize) -> bool
     requires { (n ≤ length u.now) × (n ≤ length v.now) }
     ensures { result ≡ covered n own (vector_in u.now) (vector_in v.now) }
 {
-    let mut x = 0;
-    while x < n {
-        if x != own {
-            if v[x] < u[x] {
-                return false;
-            }
-        }
-        x += 1;
-    }
-    true
+    (0..n).all(|x| x == own || u[x] <= v[x])
 }
 
 // Whether all of the n entries are 0.
@@ -25,14 +16,7 @@ pub fn is_zero(u: &[u32], n: usize) -> bool
     requires { n ≤ length u.now }
     ensures { result ≡ zeros n (vector_in u.now) }
 {
-    let mut x = 0;
-    while x < n {
-        if u[x] != 0 {
-            return false;
-        }
-        x += 1;
-    }
-    true
+    (0..n).all(|x| u[x] == 0)
 }
 
 // The sum of the n entries. It is wider than an entry: four of 32 bits make up to 34.
@@ -41,10 +25,8 @@ pub fn sum_of(u: &[u32], n: usize) -> u64
     ensures { result ≡ sum n (vector_in u.now) }
 {
     let mut total: u64 = 0;
-    let mut x = 0;
-    while x < n {
-        total += u[x] as u64;
-        x += 1;
+    for x in &u[..n] {
+        total += *x as u64;
     }
     total
 }
@@ -54,12 +36,9 @@ fn merge_one(to: &mut [u32], at: usize, x: usize, offered: u32, own: usize)
     requires { at + x < length to.old }
     ensures { to.new ≡ merge_one own at x offered to.old }
 {
-    if x == own {
-        return;
-    }
-    let place = at + x;
-    if to[place] < offered {
-        to[place] = offered;
+    if x != own {
+        let place = at + x;
+        to[place] = to[place].max(offered);
     }
 }
 
@@ -68,9 +47,7 @@ pub fn merge(to: &mut [u32], at: usize, offered: &[u32], n: usize, own: usize)
     requires { (at + n ≤ length to.old) × (n ≤ length offered.now) }
     ensures { to.new ≡ merged_at n own (vector_in offered.now) at to.old }
 {
-    let mut x = 0;
-    while x < n {
+    for x in 0..n {
         merge_one(to, at, x, offered[x], own);
-        x += 1;
     }
 }

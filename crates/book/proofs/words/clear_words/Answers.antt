@@ -1,17 +1,15 @@
--- `book::words::clear_words` meets its contract. The loop's invariant: the words passed are 0.
+-- `book::words::clear_words` meets its contract: the zeros that fill the run are put there.
 -- Assumes nothing.
-use native.Mathlib.Nat.{le_antisymm}
-use mathlib.Core.Path.{refl, sym}
-use lib.ListN.{length-set}
-use borrow.Author.Rules.{rules}
-use Rattle.book.proofs.WordsLaws.{put_none, zero_step}
+use Prim.Native.Nat.{ℕ}
+use native.Mathlib.Omega.{arith}
+use mathlib.Core.Path.{◌∙◌, refl, ap}
+use lib.ListN.{length, replicate, length-replicate}
+use Rattle.book.proofs.WordsLaws.{length_part, part_lent, put_run}
 use Rattle.book.proofs.words.clear_words.Goals as goal
 
-pub loop-i-init : goal.loop-i-init
-loop-i-init c = (search rules, refl, sym (put_none _ _))
-
-pub loop-i-preserved : goal.loop-i-preserved
-loop-i-preserved c = (search rules, simp length-set c.loop-i.invariant.1, zero_step _ _ _ c.loop-i.invariant.2)
-
 pub returns : goal.returns
-returns c = rw (le_antisymm c.loop-i.invariant.0 c.loop-i-test.false) at c.loop-i.invariant.2
+returns c =
+    let args = c.args in
+    let size = length-replicate {A = ℕ} args.n 0 in
+    let lent = ap length (part_lent args.book.now args.at _ args.n refl) ∙ length_part args.book.now args.at args.n c.requires in
+    put_run _ _ _ _ (c.fill.ensures.after (λ y e. e) ∙ ap (λ (k : ℕ). replicate k 0) lent) (omega (arith, size)) (omega (arith, size))

