@@ -96,10 +96,8 @@ fn sweep(book: &mut [u32], n: usize, d: Depot, s: Shelf, q: Link, count: usize) 
     ensures { swept n d.0 s.0 q.0 count book.old ≡ record { words = book.new; kept = result } }
 {
     let mut kept = 0;
-    let mut i = 0;
-    while i < count {
+    for i in 0..count {
         kept = show_slot(book, n, d, s, q, i, kept);
-        i += 1;
     }
     kept
 }
@@ -126,27 +124,17 @@ fn show_link(book: &mut [u32], n: usize, d: Depot, s: Shelf, from: Depot)
     set_head(book, q, word(held - gone), word(kept));
 }
 
-// The incoming link from a depot is shown, unless that depot is this one.
-fn show_from(book: &mut [u32], n: usize, d: Depot, s: Shelf, from: Depot)
-    requires { (length book.old ≡ book_words) × (n ≤ most_depots) × (d.0 < most_depots) × (s.0 < most_shelves) × (from.0 < most_depots)
-        × ((from.0 ≡ d.0 → ⊥) → Sound book.old (link_of s.0 from.0 d.0)) }
-    ensures { book.new ≡ pick (eqb from.0 d.0) book.old (shown_link n d.0 s.0 from.0 book.old) }
-{
-    if from.index() == d.index() {
-        return;
-    }
-    show_link(book, n, d, s, from);
-}
-
-// From depot 0 on, each incoming link of a shelf is shown.
+// From depot 0 on, each incoming link of a shelf is shown; a depot has no link to itself.
 fn show(book: &mut [u32], n: usize, d: Depot, s: Shelf)
     requires { (length book.old ≡ book_words) × Ready n d.0 s.0 book.old }
     ensures { book.new ≡ shown n d.0 s.0 book.old }
 {
-    let mut from = 0;
-    while from < n {
-        show_from(book, n, d, s, Depot::nth(from, n));
-        from += 1;
+    for number in 0..n {
+        let from = Depot::nth(number, n);
+        if from == d {
+            continue;
+        }
+        show_link(book, n, d, s, from);
     }
 }
 

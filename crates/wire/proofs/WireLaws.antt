@@ -1,6 +1,6 @@
 -- Halves and words come back from their bytes and the bytes from them; runs one after the other, where each stands, and how they are written.
 -- Assumes nothing.
-use Prim.Native.Nat.{ℕ, zero, suc, ◌+◌, ◌*◌, ◌/◌, ◌%◌, ◌≤◌, ◌<◌}
+use Prim.Native.Nat.{ℕ, zero, suc, ◌+◌, ◌-◌, ◌*◌, ◌/◌, ◌%◌, ◌≤◌, ◌<◌}
 use native.Mathlib.Omega.{arith}
 use native.Mathlib.Numerals.{add-one}
 use native.Mathlib.Nat.{add-zero, le_step, le_refl}
@@ -8,6 +8,9 @@ use mathlib.Core.Path.{◌≡◌, refl, sym, ◌∙◌, ap, ap₂}
 use mathlib.Core.Logic.{⊎_elim}
 use mathlib.Core.List.{List, [], ◌∷◌, ◌++◌, append_assoc}
 use lib.ListN.{length, get_or, set, take, drop, length-append, get_or-append}
+use Rattle.std.specs.Int.{w32, to_le_bytes}
+use Rattle.std.proofs.lemmas.List.Edits.{sets-eq}
+use borrow.Rule.Slice.PartMut.{put_mid}
 use lib.Seq.{sets, get_or-append-add, take-add, drop-drop, drop-cons}
 use Rattle.loops.proofs.BoolLaws.{eq_or_ne}
 use Rattle.book.specs.Words.{part, put}
@@ -35,6 +38,14 @@ bytes_back a b c d p q r s =
     rw nested
     (rw (lowest a (b + 256 * (c + 256 * d)) p, shift a (b + 256 * (c + 256 * d)) p, lowest b (c + 256 * d) q, shift b (c + 256 * d) q, lowest c d r, shift c d r)
     (ap (λ (x : ℕ). a ∷ b ∷ c ∷ x ∷ []) (omega arith)))
+
+-- the library's bytes of a word
+pub low_first : (w : ℕ) → to_le_bytes w32 w ≡ word_bytes w
+unfolding word_bytes
+low_first w =
+    let b : w / 65536 % 256 ≡ w / 256 / 256 % 256 = omega arith in
+    let c : w / 16777216 % 256 ≡ w / 256 / 256 / 256 % 256 = omega arith in
+    ap₂ (λ (x y : ℕ). w % 256 ∷ w / 256 % 256 ∷ x ∷ y ∷ []) b c
 
 pub word_below : (a b c d : ℕ) → a < byte_limit → b < byte_limit → c < byte_limit → d < byte_limit → word_of a b c d < word_limit
 unfolding word_of
@@ -170,6 +181,13 @@ runs_found f place g (suc n) h =
     ∙ append_assoc (take (place 0) f) (joined n g) (g n)
 
 -- ---- writing
+
+-- the bytes copied into a slice's part stand there
+pub put_copied : (o : List ℕ) (at k : ℕ) {u v : List ℕ} → u ≡ v → length v ≡ k → at + k ≤ length o → put_mid at (at + k - at) o u ≡ put o at v
+unfolding put
+put_copied o at k {u} {v} e n h =
+    let w : at + k - at ≡ k = omega arith in
+    rw (e, w, drop-drop k at o, ← n, ← append_assoc (take at o) v (drop (at + length v) o)) (sym (sets-eq v o at (omega (arith, n, h))))
 
 pub put_append : (o : List ℕ) (at : ℕ) (u v : List ℕ) → put (put o at u) (at + length u) v ≡ put o at (u ++ v)
 unfolding put

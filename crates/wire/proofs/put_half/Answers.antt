@@ -1,15 +1,13 @@
 -- `wire::put_half` meets its contract.
 -- Assumes nothing.
-use native.Mathlib.Numerals.{add-one}
-use native.Mathlib.Omega.{arith}
-use lib.ListN.{length-set}
-use Rattle.book.specs.Words.{put}
+use Prim.Native.Nat.{ℕ}
+use mathlib.Core.Path.{◌∙◌, refl, ap}
+use mathlib.Core.List.{List}
+use lib.ListN.{take}
 use Rattle.wire.specs.Wire.{half_bytes}
+use Rattle.wire.proofs.WireLaws.{put_copied}
 use Rattle.wire.proofs.put_half.Goals as goal
 
-pub bounds-out-at-2 : goal.bounds-out-at-2
-bounds-out-at-2 c = simp length-set (omega arith)
-
 pub returns : goal.returns
-unfolding put half_bytes
-returns c = rw add-one
+unfolding half_bytes
+returns c = put_copied c.args.out.now c.args.at 2 (c.copy_from_slice.ensures.after ∙ ap (λ (l : List ℕ). take 2 l) c.to_le_bytes.ensures) refl c.requires

@@ -1,8 +1,9 @@
 -- `wire::word_at` meets its contract.
 -- Assumes nothing.
-use Rattle.wire.specs.Wire.{word_at}
+use native.Mathlib.Omega.{arith}
+use Rattle.wire.specs.Wire.{word_at, word_of}
 use Rattle.wire.proofs.word_at.Goals as goal
 
 pub returns : goal.returns
-unfolding word_at
-returns c = c.word_of.ensures
+unfolding word_at word_of
+returns c = omega (arith, c.from_le_bytes.ensures)
