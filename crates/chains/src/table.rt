@@ -24,7 +24,7 @@ pub fn mark(table: &mut [u64], i: usize, j: usize)
     ensures { Adds table.old (one i j) table.new }
 {
     let at = i * ROW_WORDS + j / WORD_BITS;
-    table[at] = table[at] | (1 << (j % WORD_BITS));
+    table[at] |= 1 << (j % WORD_BITS);
 }
 
 // If the row of word p has bit k, the bits of row k are set in that word.
@@ -36,7 +36,7 @@ fn join_word(table: &mut [u64], k: usize, p: usize)
         return;
     }
     let from = k * ROW_WORDS + p % ROW_WORDS;
-    table[p] = table[p] | table[from];
+    table[p] |= table[from];
 }
 
 // The bits of row k are set in each of the first n rows that has bit k.
@@ -44,11 +44,8 @@ fn join(table: &mut [u64], k: usize, n: usize)
     requires { (length table.old ≡ table_words) × (k < most_rows) × (n ≤ most_rows) }
     ensures { Adds table.old (turns (n * row_words) (joins (bit table.old) k)) table.new }
 {
-    let words = n * ROW_WORDS;
-    let mut p = 0;
-    while p < words {
+    for p in 0..n * ROW_WORDS {
         join_word(table, k, p);
-        p += 1;
     }
 }
 
@@ -57,9 +54,7 @@ pub fn close(table: &mut [u64], n: usize)
     requires { (length table.old ≡ table_words) × (n ≤ most_rows) }
     ensures { (length table.new ≡ table_words) × Closed n (bit table.old) (bit table.new) }
 {
-    let mut k = 0;
-    while k < n {
+    for k in 0..n {
         join(table, k, n);
-        k += 1;
     }
 }
