@@ -1,161 +1,46 @@
 // The four kinds of number, each a type of its own, so that a crew's number can't be passed where a shelf's belongs.
 // Only the functions here make one: a checking function, of any number that arrives, and `nth`, where the number is known to be below
 // its count.
-ghost use Rattle.std.specs.Prelude.{◌≡◌, ◌<◌, ltb};
+ghost use Rattle.std.specs.Prelude.{◌≡◌, ◌<◌, ltb, Some, None};
 ghost use Rattle.loops.specs.Loops.{pick};
 
-// A depot of a register.
+// A number of one kind: of depots, of shelves, of bearings or of crews.
 #[derive(Clone, Copy, PartialEq, Eq)]
-pub struct Depot(usize);
+pub struct Number<const KIND: u8>(usize);
 
-// A number that arrived, checked as a depot's.
-#[derive(Clone, Copy)]
-pub enum DepotCheck {
-    Good(Depot),
-    Bad,
-}
-
-impl Depot {
-    // The number itself.
-    pub fn index(self) -> usize
-        ensures { result ≡ self.0 }
-    {
-        self.0
-    }
-
-    // The depot of a number that is known to be below the count.
-    pub fn nth(number: usize, count: usize) -> Depot
-        requires { number < count }
-        ensures { result.0 ≡ number }
-    {
-        Depot(number)
-    }
-
-    // The depot of any number, or bad.
-    pub fn checked(number: u32, count: usize) -> DepotCheck
-        ensures { result ≡ pick (ltb number count) (DepotCheck.Good (record { 0 = number })) DepotCheck.Bad }
-    {
-        let n = number as usize;
-        if n < count {
-            return DepotCheck::Good(Depot(n));
-        }
-        DepotCheck::Bad
-    }
-}
+// A depot of a register.
+pub type Depot = Number<0>;
 
 // A shelf of each depot.
-#[derive(Clone, Copy, PartialEq, Eq)]
-pub struct Shelf(usize);
-
-// A number that arrived, checked as a shelf's.
-#[derive(Clone, Copy)]
-pub enum ShelfCheck {
-    Good(Shelf),
-    Bad,
-}
-
-impl Shelf {
-    // The number itself.
-    pub fn index(self) -> usize
-        ensures { result ≡ self.0 }
-    {
-        self.0
-    }
-
-    // The shelf of a number that is known to be below the count.
-    pub fn nth(number: usize, count: usize) -> Shelf
-        requires { number < count }
-        ensures { result.0 ≡ number }
-    {
-        Shelf(number)
-    }
-
-    // The shelf of any number, or bad.
-    pub fn checked(number: u32, count: usize) -> ShelfCheck
-        ensures { result ≡ pick (ltb number count) (ShelfCheck.Good (record { 0 = number })) ShelfCheck.Bad }
-    {
-        let n = number as usize;
-        if n < count {
-            return ShelfCheck::Good(Shelf(n));
-        }
-        ShelfCheck::Bad
-    }
-}
+pub type Shelf = Number<1>;
 
 // A bearing.
-#[derive(Clone, Copy, PartialEq, Eq)]
-pub struct Bearing(usize);
-
-// A number that arrived, checked as a bearing's.
-#[derive(Clone, Copy)]
-pub enum BearingCheck {
-    Good(Bearing),
-    Bad,
-}
-
-impl Bearing {
-    // The number itself.
-    pub fn index(self) -> usize
-        ensures { result ≡ self.0 }
-    {
-        self.0
-    }
-
-    // The bearing of a number that is known to be below the count.
-    pub fn nth(number: usize, count: usize) -> Bearing
-        requires { number < count }
-        ensures { result.0 ≡ number }
-    {
-        Bearing(number)
-    }
-
-    // The bearing of any number, or bad.
-    pub fn checked(number: u32, count: usize) -> BearingCheck
-        ensures { result ≡ pick (ltb number count) (BearingCheck.Good (record { 0 = number })) BearingCheck.Bad }
-    {
-        let n = number as usize;
-        if n < count {
-            return BearingCheck::Good(Bearing(n));
-        }
-        BearingCheck::Bad
-    }
-}
+pub type Bearing = Number<2>;
 
 // A crew.
-#[derive(Clone, Copy, PartialEq, Eq)]
-pub struct Crew(usize);
+pub type Crew = Number<3>;
 
-// A number that arrived, checked as a crew's.
-#[derive(Clone, Copy)]
-pub enum CrewCheck {
-    Good(Crew),
-    Bad,
-}
-
-impl Crew {
+impl<const KIND: u8> Number<KIND> {
     // The number itself.
     pub fn index(self) -> usize
-        ensures { result ≡ self.0 }
+        ensures { result ≡ self.entry.0 }
     {
         self.0
     }
 
-    // The crew of a number that is known to be below the count.
-    pub fn nth(number: usize, count: usize) -> Crew
+    // The one of a number that is known to be below the count.
+    pub fn nth(number: usize, count: usize) -> Number<KIND>
         requires { number < count }
         ensures { result.0 ≡ number }
     {
-        Crew(number)
+        Number(number)
     }
 
-    // The crew of any number, or bad.
-    pub fn checked(number: u32, count: usize) -> CrewCheck
-        ensures { result ≡ pick (ltb number count) (CrewCheck.Good (record { 0 = number })) CrewCheck.Bad }
+    // The one of any number, or none.
+    pub fn checked(number: u32, count: usize) -> Option<Number<KIND>>
+        ensures { result ≡ pick (ltb number count) (Some (record { 0 = number })) None }
     {
         let n = number as usize;
-        if n < count {
-            return CrewCheck::Good(Crew(n));
-        }
-        CrewCheck::Bad
+        (n < count).then_some(Number(n))
     }
 }

@@ -7,12 +7,10 @@ use mathlib.Core.Bool.{Bool, true, false, ◌&&◌}
 use lib.Dec.{T, leb, ltb}
 use lib.Ieee.{Float, nan, inf, fin, binary32, is_nan, fits}
 use lib.Ieee.Bits.{of_bits-to_bits}
+use Rattle.std.specs.Prelude.{Option, Some, None}
 use Rattle.loops.specs.Loops.{pick}
 use Rattle.loops.proofs.BoolLaws.{pick_false}
 use Rattle.card.specs.declared.Card.{Card}
-use Rattle.card.specs.declared.CardCheck.{CardCheck}
-use Rattle.card.specs.declared.CardCheck.TheVariants.{Good, Bad}
-use Rattle.card.specs.declared.GramsAnswer.TheVariants.{Of, BadCard}
 use Rattle.card.specs.Card.{float_of, length_fit, card_fit, card_of, card_answer, word_of, grams_of, grams_answer, grams_number}
 use Rattle.card.proofs.LengthLaws.{length_zero, length_is}
 use Rattle.card.proofs.CardLaws.{fit_diameter, fit_width, length_number, word_back}
@@ -25,25 +23,25 @@ unfolding card_fit
 card_is d w = rw (length_is d, length_is w)
 
 -- what the answer tells
-pub good_tells : (d w : ℕ) (c : Card) → card_answer d w ≡ Good c → (card_fit d w ≡ true) × (c ≡ card_of d w)
+pub good_tells : (d w : ℕ) (c : Card) → card_answer d w ≡ Some c → (card_fit d w ≡ true) × (c ≡ card_of d w)
 unfolding card_answer pick
 good_tells d w c = go (card_fit d w)
   where
-    go : (t : Bool) → pick t (Good (card_of d w)) Bad ≡ Good c → (t ≡ true) × (c ≡ card_of d w)
+    go : (t : Bool) → pick t (Some (card_of d w)) None ≡ Some c → (t ≡ true) × (c ≡ card_of d w)
     go true e = (refl, cc)
     go false e = (cc, cc)
 
-pub bad_tells : (d w : ℕ) → card_answer d w ≡ Bad → card_fit d w ≡ false
+pub bad_tells : (d w : ℕ) → card_answer d w ≡ None → card_fit d w ≡ false
 unfolding card_answer pick
 bad_tells d w = go (card_fit d w)
   where
-    go : (t : Bool) → pick t (Good (card_of d w)) Bad ≡ Bad → t ≡ false
+    go : (t : Bool) → pick t (Some (card_of d w)) None ≡ None → t ≡ false
     go true e = cc
     go false e = refl
 
 -- ---- from words to a card and back
 
-pub words_back : (d w : ℕ) (c : Card) → card_answer d w ≡ Good c → (word_of c.diameter ≡ d) × (word_of c.width ≡ w)
+pub words_back : (d w : ℕ) (c : Card) → card_answer d w ≡ Some c → (word_of c.diameter ≡ d) × (word_of c.width ≡ w)
 words_back d w c e =
     let h = good_tells d w c e in
     rw h.1 (word_back d (fit_diameter d w h.0), word_back w (fit_width d w h.0))
@@ -61,22 +59,22 @@ word_fit nan h = unfold length_fit word_of pick in length_zero
 word_fit (inf s) h = ap length_fit (float_back (inf s) h refl)
 word_fit (fin s m e) h = ap length_fit (float_back (fin s m e) h refl)
 
-picked : (a b : Bool) (x y : CardCheck) → (a ≡ true → b ≡ true → x ≡ y) → pick (a && b) x Bad ≡ pick (a && b) y Bad
+picked : (a b : Bool) (x y : Option Card) → (a ≡ true → b ≡ true → x ≡ y) → pick (a && b) x None ≡ pick (a && b) y None
 unfolding pick
 picked true true x y f = f refl refl
 picked true false x y f = refl
 picked false b x y f = refl
 
 pub card_back : (c : Card) → T (fits binary32 c.diameter) → T (fits binary32 c.width)
-    → card_answer (word_of c.diameter) (word_of c.width) ≡ pick (length_fit c.diameter && length_fit c.width) (Good c) Bad
+    → card_answer (word_of c.diameter) (word_of c.width) ≡ pick (length_fit c.diameter && length_fit c.width) (Some c) None
 unfolding card_answer card_fit
 card_back c f g = rw (word_fit c.diameter f, word_fit c.width g) (picked _ _ _ _ same)
   where
-    same : length_fit c.diameter ≡ true → length_fit c.width ≡ true → Good (card_of (word_of c.diameter) (word_of c.width)) ≡ Good c
+    same : length_fit c.diameter ≡ true → length_fit c.width ≡ true → Some (card_of (word_of c.diameter) (word_of c.width)) ≡ Some c
     same d w = rw (float_back c.diameter f (length_number _ d), float_back c.width g (length_number _ w))
 
 -- ---- the grams are refused, BAD CARD, exactly where the words are no card
 
 pub grams_refused : (d w : ℕ) → grams_number (grams_answer d w) ≡ pick (card_fit d w) 0 14
 unfolding grams_answer grams_number pick
-grams_refused d w = elim (card_fit d w) as (λ t. grams_number (pick t (Of (grams_of d w)) BadCard) ≡ pick t 0 14) [ true ↦ refl | false ↦ refl ]
+grams_refused d w = elim (card_fit d w) as (λ t. grams_number (pick t (Some (grams_of d w)) None) ≡ pick t 0 14) [ true ↦ refl | false ↦ refl ]

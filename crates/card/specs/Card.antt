@@ -1,16 +1,12 @@
 -- A card: a bearing's outside diameter and width in millimetres, two 32-bit floats that a record keeps as two words, by their bits. Which cards
 -- there are, and the grams of grease shown for one. A float is the logic's own (`lib.Ieee`): a NaN, an infinity, or the number m * 2 ^ e with a sign.
 -- Assumes nothing.
-use Rattle.std.specs.Prelude.{ℕ, Bool, false, ◌&&◌, pos, Float}
+use Rattle.std.specs.Prelude.{ℕ, Bool, false, ◌&&◌, pos, Float, Option, Some, None}
 use Rattle.std.specs.Float.{fin, binary32, binary64}
 use Rattle.std.specs.Float.Ieee.{is_nan, of_bits, to_bits, lt, le, mul, round}
 use Rattle.std.specs.Float.Ieee.Scale.{finite}
 use Rattle.loops.specs.Loops.{pick}
 use Rattle.card.specs.declared.Card.{Card}
-use Rattle.card.specs.declared.CardCheck.{CardCheck}
-use Rattle.card.specs.declared.CardCheck.TheVariants.{Good, Bad}
-use Rattle.card.specs.declared.GramsAnswer.{GramsAnswer}
-use Rattle.card.specs.declared.GramsAnswer.TheVariants.{Of, BadCard}
 
 -- ---- which cards there are
 
@@ -34,9 +30,9 @@ card_fit d w = length_fit (float_of d) && length_fit (float_of w)
 abbrev pub card_of : ℕ → ℕ → Card
 card_of d w = record { diameter = float_of d; width = float_of w }
 
--- the answer to two words of which a card is asked
-unfoldable pub card_answer : ℕ → ℕ → CardCheck
-card_answer d w = pick (card_fit d w) (Good (card_of d w)) Bad
+-- the answer to two words of which a card is asked: their card, or none
+unfoldable pub card_answer : ℕ → ℕ → Option Card
+card_answer d w = pick (card_fit d w) (Some (card_of d w)) None
 
 -- the word of a 32-bit float: its bits. A NaN has none of its own, and has the word 0, which is no length's
 unfoldable pub word_of : Float → ℕ
@@ -57,11 +53,11 @@ weight d w = mul binary64 (mul binary64 d w) density
 unfoldable pub grams_of : ℕ → ℕ → ℕ
 grams_of d w = to_bits binary64 (weight (float_of d) (float_of w))
 
--- the answer to two words of which the grams are asked
-unfoldable pub grams_answer : ℕ → ℕ → GramsAnswer
-grams_answer d w = pick (card_fit d w) (Of (grams_of d w)) BadCard
+-- the answer to two words of which the grams are asked: their grams, or none where they are no card
+unfoldable pub grams_answer : ℕ → ℕ → Option ℕ
+grams_answer d w = pick (card_fit d w) (Some (grams_of d w)) None
 
 -- the number of an answer: 0, or 14, BAD CARD
-unfoldable pub grams_number : GramsAnswer → ℕ
-grams_number (Of bits) = 0
-grams_number BadCard = 14
+unfoldable pub grams_number : Option ℕ → ℕ
+grams_number (Some bits) = 0
+grams_number None = 14

@@ -11,20 +11,6 @@ pub struct Card {
     pub width: f32,
 }
 
-// What two words are: a card, or none.
-#[derive(Clone, Copy)]
-pub enum CardCheck {
-    Good(Card),
-    Bad,
-}
-
-// The bits of the grams of a card, a 64-bit float; or that there is no such card.
-#[derive(Clone, Copy)]
-pub enum GramsAnswer {
-    Of(u64),
-    BadCard,
-}
-
 // The bits of the least float above 0, and of 2,000. Of floats that are not negative the greater one has the greater bits.
 const LEAST: u32 = 1;
 
@@ -53,14 +39,14 @@ pub fn card_fits(diameter: u32, width: u32) -> bool
     length_fits(width)
 }
 
-// The card of two words.
-pub fn card_of(diameter: u32, width: u32) -> CardCheck
+// The card of two words, if they are one.
+pub fn card_of(diameter: u32, width: u32) -> Option<Card>
     ensures { result ≡ card_answer diameter width }
 {
     if !card_fits(diameter, width) {
-        return CardCheck::Bad;
+        return None;
     }
-    CardCheck::Good(Card {
+    Some(Card {
         diameter: f32::from_bits(diameter),
         width: f32::from_bits(width),
     })
@@ -89,14 +75,14 @@ pub fn width_bits(card: Card) -> u32
     word_of(card.width)
 }
 
-// The grams shown for the card of two words: outside diameter times width, then times 0.005.
-pub fn grams(diameter: u32, width: u32) -> GramsAnswer
+// The bits of the grams shown for the card of two words, a 64-bit float: outside diameter times width, then times 0.005. None if they are no card.
+pub fn grams(diameter: u32, width: u32) -> Option<u64>
     ensures { result ≡ grams_answer diameter width }
 {
     if !card_fits(diameter, width) {
-        return GramsAnswer::BadCard;
+        return None;
     }
     let d = f32::from_bits(diameter) as f64;
     let w = f32::from_bits(width) as f64;
-    GramsAnswer::Of(f64::to_bits(d * w * DENSITY))
+    Some(f64::to_bits(d * w * DENSITY))
 }
