@@ -1,12 +1,14 @@
--- The choice that a test makes, to have a thing or none.
+-- The choice that a test of two numbers makes.
 -- Assumes nothing.
-use Rattle.std.specs.Prelude.{Some, None}
-use Rattle.std.specs.Bool.{then_some}
-use mathlib.Core.Path.{◌≡◌, refl}
-use mathlib.Core.Bool.{Bool, true, false}
+use Prim.Native.Nat.{ℕ, ◌≤◌, ◌<◌}
+use mathlib.Core.Path.{◌≡◌, sym}
+use lib.Dec.{ltb}
+use borrow.Author.Tests.{lt-ltb, le-ltb}
 use Rattle.loops.specs.Loops.{pick}
+use Rattle.loops.proofs.BoolLaws.{pick_true, pick_false}
 
-pub some_or_none : {A : Type 0} (b : Bool) (x : A) → then_some b x ≡ pick b (Some x) None
-unfolding pick
-some_or_none true x = refl
-some_or_none false x = refl
+pub below {ℓ} : {A : Type ℓ} {a b : ℕ} (x y : A) → a < b → x ≡ pick (ltb a b) x y
+below x y h = sym (pick_true x y (lt-ltb _ _ h))
+
+pub not_below {ℓ} : {A : Type ℓ} {a b : ℕ} (x y : A) → b ≤ a → y ≡ pick (ltb a b) x y
+not_below x y h = sym (pick_false x y (le-ltb _ _ h))

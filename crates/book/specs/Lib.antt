@@ -1,4 +1,3 @@
 pub mod Words
 pub mod Layout
 pub mod Parts
-pub mod Numbers

@@ -4,7 +4,7 @@ ghost use Rattle.order.specs.Record.{most_depots};
 ghost use Rattle.book.specs.Layout.{most_shelves, most_crews, bearing_room, link_room, links};
 ghost use Rattle.book.specs.Layout.{home_at, crew_at, clock_at, stable_at, seen_at, link_of, held_at, taken_at, slot_at, stored_at};
 
-use crate::numbers::{Bearing, Crew, Depot, Shelf};
+use crate::numbers::{Bearing, Crew, Depot, Numbered, Shelf};
 use order::record::RECORD_WORDS;
 
 pub const BOOK_WORDS: usize = 16384;

@@ -5,7 +5,7 @@ ghost use Rattle.book.specs.Layout.{book_words, most_shelves, most_crews, links}
 ghost use Rattle.book.specs.Layout.{counts_of, home, clock, held, taken, clock_at, seen_at, held_at, taken_at};
 
 use crate::layout::{BEARINGS, CREWS, DEPOTS, Link, SHELVES, clock_at, home_at, seen_at};
-use crate::numbers::{Crew, Depot, Shelf};
+use crate::numbers::{Crew, Depot, Numbered, Shelf};
 
 // A word as a number to count with.
 pub fn wide(word: u32) -> usize

@@ -9,7 +9,7 @@ ghost use Rattle.reply.specs.Printed.{answer_room};
 
 use crate::lists::case_p;
 use book::layout::{BOOK_WORDS, clock_at, crew_at, stable_at};
-use book::numbers::{Crew, Depot, Shelf};
+use book::numbers::{Crew, Depot, Numbered, Shelf};
 use book::parts::set_clock;
 use paper::answer::Answer;
 use paper::number::number_of;

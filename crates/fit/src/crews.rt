@@ -7,7 +7,7 @@ ghost use Rattle.fit.specs.Fit.{Within, homes_fit};
 
 use crate::range::others_in_range;
 use book::layout::{crew_at, home_at};
-use book::numbers::Crew;
+use book::numbers::{Crew, Numbered};
 use book::parts::{Counts, wide};
 use order::record::MOST_DEPOTS;
 

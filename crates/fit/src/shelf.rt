@@ -6,7 +6,7 @@ ghost use Rattle.fit.specs.Fit.{clock_fit, stable_fit, seen_fit, shelf_fit};
 
 use crate::range::others_in_range;
 use book::layout::{END, clock_at, seen_at, stable_at};
-use book::numbers::{Depot, Shelf};
+use book::numbers::{Depot, Numbered, Shelf};
 use book::parts::Counts;
 use order::record::MOST_DEPOTS;
 

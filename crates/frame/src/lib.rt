@@ -7,7 +7,7 @@ ghost use Rattle.frame.specs.Frame.{size_of, whom};
 ghost use Rattle.frame.specs.Promises.{Ready};
 
 use book::layout::{BEAT, COPY};
-use book::numbers::{Depot, Shelf};
+use book::numbers::{Depot, Numbered, Shelf};
 use book::parts::Counts;
 use paper::answer::Refusal;
 

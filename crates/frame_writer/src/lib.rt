@@ -8,7 +8,7 @@ ghost use Rattle.named.specs.Named.{waiting_fit, base_fit};
 ghost use Rattle.frame.specs.Promises.{bad_count, Written};
 
 use book::layout::{LINK_ROOM, Link};
-use book::numbers::{Depot, Shelf};
+use book::numbers::{Depot, Numbered, Shelf};
 use book::parts::{Counts, counts_of, held_of, taken_of, wide};
 use frame::{FrameAnswer, FrameRefusal, Route};
 use frame_bytes::{put_frame, size_of_frame};

@@ -6,7 +6,7 @@ ghost use Rattle.shelf.specs.Asks.{Free};
 ghost use Rattle.links.specs.Send.{roomy, sent_to, sent};
 
 use book::layout::{LINK_ROOM, Link};
-use book::numbers::{Depot, Shelf};
+use book::numbers::{Depot, Numbered, Shelf};
 use book::parts::{held_of, set_clock};
 use book::words::write_words;
 use shelf::show::word;

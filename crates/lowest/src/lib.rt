@@ -8,7 +8,7 @@ ghost use Rattle.book.specs.Layout.{book_words, most_shelves};
 ghost use Rattle.links.specs.Send.{lowest_seen, four_of};
 
 use book::layout::{END, seen_at};
-use book::numbers::{Depot, Shelf};
+use book::numbers::{Depot, Numbered, Shelf};
 
 fn smaller(a: u32, b: u32) -> u32
     ensures { result ≡ min a b }

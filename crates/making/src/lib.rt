@@ -15,7 +15,7 @@ ghost use Rattle.paper.specs.Answers.{paper_write};
 ghost use Rattle.register.specs.Answers.{cut, written};
 
 use book::layout::{COPY, SLOT_RECORD, SLOT_WORDS, crew_at, stored_at};
-use book::numbers::{Bearing, Crew, Depot, Shelf};
+use book::numbers::{Bearing, Crew, Depot, Numbered, Shelf};
 use book::words::write_words;
 use card::{Card, diameter_bits, width_bits};
 use links::send::send;

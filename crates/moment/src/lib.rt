@@ -13,7 +13,7 @@ ghost use Rattle.register.specs.Answers.{told};
 ghost use Rattle.register.specs.Calls.{gathered_from, settled_all, merged_all};
 
 use book::layout::{crew_at, stable_at, stored_at};
-use book::numbers::{Bearing, Crew, Depot, Shelf};
+use book::numbers::{Bearing, Crew, Depot, Numbered, Shelf};
 use book::parts::Counts;
 use book::words::write_words;
 use named_call::bearing_at;

@@ -9,7 +9,7 @@ ghost use Rattle.fit.specs.Fit.{Within, seen_fit};
 ghost use Rattle.named.specs.Named.{show_fit, tick_parts, refresh_parts, home_parts, move_parts, listed_fit, page_parts, all_below, base_fit};
 
 use book::layout::BOOK_WORDS;
-use book::numbers::{Bearing, Crew, Depot, Shelf};
+use book::numbers::{Bearing, Crew, Depot, Numbered, Shelf};
 use book::parts::{Counts, counts_of, wide};
 use fit::counts::counts_fit;
 use fit::crews::{crew_fits, homes_fit};

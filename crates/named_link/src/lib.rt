@@ -8,7 +8,7 @@ ghost use Rattle.fit.specs.Fit.{Within, head_fit};
 ghost use Rattle.named.specs.Named.{heads_out_fit, tick_parts, take_parts};
 
 use book::layout::{END, LINK_ROOM, Link, seen_at};
-use book::numbers::{Depot, Shelf};
+use book::numbers::{Depot, Numbered, Shelf};
 use book::parts::{Counts, held_of, taken_of};
 use fit::shelf::clock_fits;
 use messages::{head_fits, waiting_fit};

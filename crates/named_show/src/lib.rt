@@ -9,7 +9,7 @@ ghost use Rattle.fit.specs.Fit.{Within, stored_fit};
 ghost use Rattle.named.specs.Named.{arrival_fit, show_fit};
 
 use book::layout::{LINK_ROOM, Link, SLOT_RECORD};
-use book::numbers::{Bearing, Depot, Shelf};
+use book::numbers::{Bearing, Depot, Numbered, Shelf};
 use book::parts::{Counts, held_of, taken_of, wide};
 use fit::shelf::stable_fits;
 use messages::messages_fit;

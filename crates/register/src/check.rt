@@ -1,7 +1,7 @@
 // The checks that calls share, in the order of the paper's table: the book's length, its counts and homes, then the numbers. A number that passed has its own type from here on.
 ghost use Rattle.register.specs.Checks.{place_number, PlaceChecked, asked_number, AskChecked, link_number, LinkChecked};
 
-use book::numbers::{Bearing, BearingCheck, Crew, CrewCheck, Depot, DepotCheck, Shelf, ShelfCheck};
+use book::numbers::{Bearing, BearingCheck, Crew, CrewCheck, Depot, DepotCheck, Numbered, Shelf, ShelfCheck};
 use book::parts::counts_of;
 use named_call::base_fits;
 use paper::answer::Refusal;

@@ -9,7 +9,7 @@ ghost use Rattle.shelf.specs.Show.{settled};
 ghost use Rattle.register.specs.Answers.{cut};
 
 use book::layout::crew_at;
-use book::numbers::{Bearing, Crew, Depot, Shelf};
+use book::numbers::{Bearing, Crew, Depot, Numbered, Shelf};
 use book::parts::{Counts, home_of, wide};
 use shelf::show::settle;
 

@@ -12,7 +12,7 @@ use crate::link::close_up;
 use book::layout::{
     BEARING_ROOM, Link, SLOT_RECORD, SLOT_VECTOR, SLOT_WORDS, stable_at, stored_at,
 };
-use book::numbers::{Bearing, Depot, Shelf};
+use book::numbers::{Bearing, Depot, Numbered, Shelf};
 use book::parts::{held_of, set_head, taken_of, wide};
 use book::words::copy_words;
 use order::record::{MOST_DEPOTS, RECORD_WORDS, is_above};

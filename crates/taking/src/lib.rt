@@ -9,7 +9,7 @@ ghost use Rattle.shelf.specs.Show.{closed_up};
 ghost use Rattle.links.specs.Send.{stamp_from, took};
 
 use book::layout::{BEAT, Link, SLOT_STAMP, SLOT_VECTOR};
-use book::numbers::{Depot, Shelf};
+use book::numbers::{Depot, Numbered, Shelf};
 use book::parts::{held_of, set_seen, taken_of};
 use shelf::link::close_up;
 use shelf::show::word;

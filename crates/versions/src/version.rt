@@ -5,7 +5,7 @@ ghost use Rattle.book.specs.Layout.{book_words, bearing_room};
 ghost use Rattle.fit.specs.Fit.{carried_fit, kept_fit, stored_fit};
 
 use book::layout::{END, stored_at};
-use book::numbers::{Bearing, Depot, Shelf};
+use book::numbers::{Bearing, Depot, Numbered, Shelf};
 use book::parts::{Counts, wide};
 use look::{has_card, look};
 use order::record::{BEARING, RECORD_WORDS};

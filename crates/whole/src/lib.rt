@@ -8,7 +8,7 @@ ghost use Rattle.book.specs.Layout.{book_words, most_shelves, link_of};
 ghost use Rattle.fit.specs.Fit.{Within, shelf_fit, link_fit, stored_fit, crews_fit, shelves_fit, links_fit, stores_fit, parts_fit, fit};
 
 use book::layout::{BOOK_WORDS, Link};
-use book::numbers::{Bearing, Crew, Depot, Shelf};
+use book::numbers::{Bearing, Crew, Depot, Numbered, Shelf};
 use book::parts::{Counts, counts_of};
 use fit::counts::counts_fit;
 use fit::crews::{crew_fits, homes_fit};

@@ -7,7 +7,7 @@ ghost use Rattle.named.specs.Named.{base_fit};
 ghost use Rattle.register.specs.Promises.{Write};
 
 use book::layout::{END, crew_at};
-use book::numbers::{Bearing, Crew};
+use book::numbers::{Bearing, Crew, Numbered};
 use book::parts::{clock_of, counts_of};
 use card::{CardCheck, card_of};
 use links::send::is_roomy;
