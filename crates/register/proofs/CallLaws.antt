@@ -6,20 +6,15 @@ use mathlib.Core.List.{List, [], ◌∷◌}
 use mathlib.Core.Bool.{false}
 use lib.Dec.{eqb}
 use borrow.Author.Tests.{eq-eqb}
+use Rattle.std.specs.Prelude.{Result, Ok, Err}
 use Rattle.loops.proofs.BoolLaws.{pick_true, pick_false}
 use Rattle.paper.specs.Calls.{Answer, refused, answer_by}
 use Rattle.paper.specs.declared.answer.Refusal.{Refusal}
 use Rattle.paper.specs.declared.answer.Refusal.TheVariants.{BadBook, BadDepot, BadShelf, BadKey, BadCrew, SameDepot, EmptyLink, Wait, LinkFull, ClockAtEnd, BadCounts, NotHereYet, BadDate, BadCard, BadList}
-use Rattle.book.specs.declared.numbers.Depot.{Depot}
-use Rattle.book.specs.declared.numbers.Shelf.{Shelf}
-use Rattle.book.specs.declared.numbers.Bearing.{Bearing}
-use Rattle.book.specs.declared.numbers.Crew.{Crew}
+use Rattle.book.specs.Numbers.{Depot, Shelf, Bearing, Crew}
 use Rattle.paper.specs.declared.answer.Finding.{Finding}
 use Rattle.paper.specs.declared.answer.ReadAnswer.{ReadAnswer}
 use Rattle.paper.specs.Answers.{number_of, paper_found, paper_read, entries_in, padded, Holds}
-use Rattle.register.specs.declared.check.PlaceCheck.{PlaceCheck}
-use Rattle.register.specs.declared.check.AskCheck.{AskCheck}
-use Rattle.register.specs.declared.check.LinkCheck.{LinkCheck}
 use Rattle.register.specs.Checks.{PlaceChecked, AskChecked, LinkChecked}
 use Rattle.register.specs.Promises.{after}
 
@@ -74,30 +69,30 @@ read_refused {n} r b q e =
 
 -- ---- what the shared checks tell
 
-pub bad_place : (n d s : ℕ) {x : PlaceCheck} (r : Refusal) → PlaceChecked n d s x → x ≡ PlaceCheck.Bad r → n ≡ number_of r
+pub bad_place : (n d s : ℕ) {x : Result (Depot × Shelf) Refusal} (r : Refusal) → PlaceChecked n d s x → x ≡ Err r → n ≡ number_of r
 unfolding PlaceChecked
 bad_place n d s r p q = subst (PlaceChecked n d s) q p
 
 pub good_place :
-    (n d s : ℕ) {x : PlaceCheck} (a : Depot) (b : Shelf) → PlaceChecked n d s x → x ≡ PlaceCheck.Good a b → (n ≡ 0) × (record { 0 = d } ≡ a) × (record { 0 = s } ≡ b)
+    (n d s : ℕ) {x : Result (Depot × Shelf) Refusal} (a : Depot) (b : Shelf) → PlaceChecked n d s x → x ≡ Ok (a, b) → (n ≡ 0) × (record { 0 = d } ≡ a) × (record { 0 = s } ≡ b)
 unfolding PlaceChecked
 good_place n d s a b p q = subst (PlaceChecked n d s) q p
 
-pub bad_asked : (n c k : ℕ) {x : AskCheck} (r : Refusal) → AskChecked n c k x → x ≡ AskCheck.Bad r → n ≡ number_of r
+pub bad_asked : (n c k : ℕ) {x : Result (Crew × Bearing) Refusal} (r : Refusal) → AskChecked n c k x → x ≡ Err r → n ≡ number_of r
 unfolding AskChecked
 bad_asked n c k r p q = subst (AskChecked n c k) q p
 
 pub good_asked :
-    (n c k : ℕ) {x : AskCheck} (a : Crew) (b : Bearing) → AskChecked n c k x → x ≡ AskCheck.Good a b → (n ≡ 0) × (record { 0 = c } ≡ a) × (record { 0 = k } ≡ b)
+    (n c k : ℕ) {x : Result (Crew × Bearing) Refusal} (a : Crew) (b : Bearing) → AskChecked n c k x → x ≡ Ok (a, b) → (n ≡ 0) × (record { 0 = c } ≡ a) × (record { 0 = k } ≡ b)
 unfolding AskChecked
 good_asked n c k a b p q = subst (AskChecked n c k) q p
 
-pub bad_link : (n d s o : ℕ) {x : LinkCheck} (r : Refusal) → LinkChecked n d s o x → x ≡ LinkCheck.Bad r → n ≡ number_of r
+pub bad_link : (n d s o : ℕ) {x : Result (Depot × Shelf × Depot) Refusal} (r : Refusal) → LinkChecked n d s o x → x ≡ Err r → n ≡ number_of r
 unfolding LinkChecked
 bad_link n d s o r p q = subst (LinkChecked n d s o) q p
 
 pub good_link :
-    (n d s o : ℕ) {x : LinkCheck} (a : Depot) (b : Shelf) (e : Depot) → LinkChecked n d s o x → x ≡ LinkCheck.Good a b e →
+    (n d s o : ℕ) {x : Result (Depot × Shelf × Depot) Refusal} (a : Depot) (b : Shelf) (e : Depot) → LinkChecked n d s o x → x ≡ Ok (a, b, e) →
     (n ≡ 0) × (record { 0 = d } ≡ a) × (record { 0 = s } ≡ b) × (record { 0 = o } ≡ e)
 unfolding LinkChecked
 good_link n d s o a b e p q = subst (LinkChecked n d s o) q p

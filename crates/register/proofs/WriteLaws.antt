@@ -10,6 +10,7 @@ use lib.Dec.{eqb}
 use lib.ListN.{length, get_or, set, take, drop}
 use lib.Seq.{get_or-set_same, get_or-set_other}
 use borrow.Author.Tests.{eq-eqb, ne_eqb}
+use Rattle.std.specs.Prelude.{Some}
 use Rattle.loops.specs.Loops.{pick}
 use Rattle.order.specs.Vector.{Vec, vector_in}
 use Rattle.order.specs.Order.{above}
@@ -19,7 +20,6 @@ use Rattle.book.specs.Words.{put}
 use Rattle.book.specs.Layout.{copy_kind, crew_at, stored_at, counts_of, home, crew_vector, stored}
 use Rattle.book.proofs.WordsLaws.{part_from}
 use Rattle.card.specs.declared.Card.{Card}
-use Rattle.card.specs.declared.CardCheck.TheVariants.{Good}
 use Rattle.card.specs.Card.{card_answer}
 use Rattle.card.proofs.Theorems.{words_back}
 use Rattle.shelf.specs.Asks.{Ready, Free}
@@ -38,7 +38,7 @@ use Rattle.register.proofs.HomeLaws.{cut_same, four_at}
 -- ---- the card
 
 -- a card made of two words has these words
-pub payload_back : (p : Payload) (card : Card) → card_answer p.diameter p.width ≡ Good card → payload_from p.value card ≡ p
+pub payload_back : (p : Payload) (card : Card) → card_answer p.diameter p.width ≡ Some card → payload_from p.value card ≡ p
 payload_back p card e = let w = words_back p.diameter p.width card e in λ i. record { value = p.value; diameter = w.0 i; width = w.1 i }
 
 -- ---- the version

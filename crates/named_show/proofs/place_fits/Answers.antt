@@ -1,6 +1,7 @@
 -- `named_show::place_fits` meets its contract: the bearing in the copy's record, and what is stored for it.
 -- Assumes nothing.
 use native.Mathlib.Nat.{lt_of_lt_of_le}
+use native.Mathlib.Omega.{arith}
 use mathlib.Core.Path.{◌≡◌, ◌∙◌, sym, ap, subst}
 use Prim.Native.Nat.{ℕ, ◌<◌}
 use Rattle.order.specs.Record.{bearing_of}
@@ -21,7 +22,7 @@ told : (c : After-wide-k) → let args = c.args in c.wide-k.result ≡ bearing_o
 told c = let args = c.args in c.wide-k.ensures ∙ bearing_there args.book.now args.q.0 args.i c.slot_at.ensures
 
 pub nth-requires : goal.nth-requires
-nth-requires c = subst (λ (k : ℕ). k < c.args.n.bearings) (sym (told c.before)) c.requires.5
+nth-requires c = let same = told c.before in omega (arith, same, c.requires.5)
 
 pub stored_fits-requires : goal.stored_fits-requires
 stored_fits-requires c =

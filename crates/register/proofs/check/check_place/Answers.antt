@@ -1,66 +1,51 @@
 -- `register::check::check_place` meets its contract: the three checks, in their order.
 -- Assumes nothing.
-use Prim.Native.Nat.{◌≤◌, ◌<◌}
-use mathlib.Core.Path.{◌≡◌, subst}
-use mathlib.Core.Bool.{true}
+use native.Mathlib.Omega.{arith}
+use mathlib.Core.Path.{◌≡◌}
+use Rattle.std.specs.Prelude.{None, Some, Err}
 use Rattle.loops.proofs.BoolLaws.{test_passed, test_failed}
-use Rattle.book.specs.declared.parts.Counts.{Counts}
-use Rattle.book.specs.Layout.{counts_of}
-use Rattle.named.specs.Named.{base_fit}
 use Rattle.named.proofs.NamedLaws.{base_open}
 use Rattle.paper.specs.Answers.{number_of}
+use Rattle.paper.specs.declared.answer.Refusal.TheVariants.{BadDepot, BadShelf}
 use Rattle.register.specs.Checks.{PlaceChecked}
 use Rattle.register.proofs.TableLaws.{place_book, place_depot, place_shelf, place_good}
-use Rattle.register.proofs.KindLaws.{good_depot, bad_depot, good_shelf, bad_shelf}
+use Rattle.register.proofs.KindLaws.{good_number, bad_number}
 use Rattle.register.proofs.check.check_place.Goals as goal
-use Rattle.register.proofs.check.check_place.Lts as lts
-use Rattle.register.proofs.check.check_place.Tie as tie
-use Rattle.register.proofs.check.check_place.Reads as reads
-
--- what is known at a place, for the lemmas below
-abbrev Else-not-base_fits : Type 0
-Else-not-base_fits = lts.Else1 tie.the-claims reads.Pre reads.Post
-
--- what the first check says where it passed
-base_book : (c : Else-not-base_fits) → base_fit c.args.book.now ≡ true
-base_book c = test_passed c.base_fits.ensures c.if-not-base_fits.false-raw
 
 pub returns-then-not-base_fits : goal.returns-then-not-base_fits
 unfolding PlaceChecked number_of
-returns-then-not-base_fits c =
-    let args = c.args in
-    place_book args.book.now _ _ (test_failed c.base_fits.ensures c.if-not-base_fits.true-raw)
+returns-then-not-base_fits c = place_book c.args.book.now _ _ (test_failed c.base_fits.ensures c.if-not-base_fits.true-raw)
 
 pub counts_of-n-requires : goal.counts_of-n-requires
-counts_of-n-requires c = (base_open _ (base_book c.before)).full
+counts_of-n-requires c = (base_open _ (test_passed c.base_fits.ensures c.if-not-base_fits.false-raw)).full
 
-pub returns-in_default : goal.returns-in_default
+pub returns-in_err-d : goal.returns-in_err-d
 unfolding PlaceChecked number_of
-returns-in_default c =
-    let n = c.counts_of-n.ensures in
-    let args = c.args in
-    let over : (counts_of args.book.now).depots ≤ args.depot = subst (λ (m : Counts). m.depots ≤ args.depot) n (bad_depot c.checked.ensures c.in_default.is) in
-    place_depot args.book.now _ _ (base_book c.before.before.before.before) over
+returns-in_err-d c =
+    let book = c.args.book.now in
+    let fit = test_passed c.base_fits.ensures c.if-not-base_fits.false-raw in
+    let none : c.checked.result ≡ None = grind arith in
+    let answer : c.from_residual.result ≡ Err BadDepot = grind arith in
+    rw answer (place_depot book _ _ fit (rw c.counts_of-n.ensures at (bad_number _ c.checked.ensures none)))
 
-pub returns-in_default-checked : goal.returns-in_default-checked
+pub returns-in_err-s : goal.returns-in_err-s
 unfolding PlaceChecked number_of
-returns-in_default-checked c =
-    let n = c.counts_of-n.ensures in
-    let args = c.args in
-    let book = args.book.now in
-    let under : args.depot < (counts_of book).depots =
-    subst (λ (m : Counts). args.depot < m.depots) n (good_depot _ c.checked.ensures c.in-Good.is).0 in
-    let over : (counts_of book).shelves ≤ args.shelf = subst (λ (m : Counts). m.shelves ≤ args.shelf) n (bad_shelf c.checked-2.ensures c.in_default-checked.is) in
-    place_shelf book _ _ (base_book c.before.before.before.before.before.before) under over
+returns-in_err-s c =
+    let book = c.args.book.now in
+    let fit = test_passed c.base_fits.ensures c.if-not-base_fits.false-raw in
+    let some : c.checked.result ≡ Some c.in_ok-d.d = grind arith in
+    let none : c.checked-2.result ≡ None = grind arith in
+    let answer : c.from_residual-in_err-s.result ≡ Err BadShelf = grind arith in
+    let under = rw c.counts_of-n.ensures at ((good_number _ c.checked.ensures some).0) in
+    rw answer (place_shelf book _ _ fit under (rw c.counts_of-n.ensures at (bad_number _ c.checked-2.ensures none)))
 
 pub returns : goal.returns
 unfolding PlaceChecked number_of
 returns c =
-    let n = c.counts_of-n.ensures in
-    let args = c.args in
-    let book = args.book.now in
-    let first = good_depot _ c.checked.ensures c.in-Good.is in
-    let second = good_shelf _ c.checked-2.ensures c.in-Good-checked.is in
-    let under : args.depot < (counts_of book).depots = subst (λ (m : Counts). args.depot < m.depots) n first.0 in
-    let under2 : args.shelf < (counts_of book).shelves = subst (λ (m : Counts). args.shelf < m.shelves) n second.0 in
-    (place_good book _ _ (base_book c.before.before.before.before.before.before) under under2, first.1, second.1)
+    let book = c.args.book.now in
+    let fit = test_passed c.base_fits.ensures c.if-not-base_fits.false-raw in
+    let first : c.checked.result ≡ Some c.in_ok-d.d = grind arith in
+    let second : c.checked-2.result ≡ Some c.in_ok-s.s = grind arith in
+    let d = good_number _ c.checked.ensures first in
+    let s = good_number _ c.checked-2.ensures second in
+    (place_good book _ _ fit (rw c.counts_of-n.ensures at d.0) (rw c.counts_of-n.ensures at s.0), d.1, s.1)
