@@ -12,27 +12,20 @@ pub const MOST_SHELVES: usize = 4;
 
 pub const MOST_CREWS: usize = 16;
 
+#[tactic(auto, unfolding(crate::specs::Fit::between))]
 fn is_between(low: usize, x: usize, high: usize) -> bool
     ensures { result ≡ between low x high }
 {
-    if x < low {
-        return false;
-    }
-    x <= high
+    low <= x && x <= high
 }
 
 // Whether the counts are in range.
+#[tactic(auto, unfolding(crate::specs::Fit::counts_fit))]
 pub fn counts_fit(n: Counts) -> bool
     ensures { result ≡ counts_fit n }
 {
-    if !is_between(1, n.depots, MOST_DEPOTS) {
-        return false;
-    }
-    if !is_between(1, n.shelves, MOST_SHELVES) {
-        return false;
-    }
-    if !is_between(1, n.bearings, MOST_BEARINGS) {
-        return false;
-    }
-    is_between(1, n.crews, MOST_CREWS)
+    is_between(1, n.depots, MOST_DEPOTS)
+        && is_between(1, n.shelves, MOST_SHELVES)
+        && is_between(1, n.bearings, MOST_BEARINGS)
+        && is_between(1, n.crews, MOST_CREWS)
 }

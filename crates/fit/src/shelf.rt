@@ -25,11 +25,7 @@ pub fn stable_fits(book: &[u32], n: Counts, d: Depot, s: Shelf) -> bool
 {
     let own = d.index();
     let at = stable_at(d, s);
-    if book[at + own] != 0 {
-        return false;
-    }
-    let end = at + MOST_DEPOTS;
-    others_in_range(&book[at..end], n.depots, own)
+    book[at + own] == 0 && others_in_range(&book[at..at + MOST_DEPOTS], n.depots, own)
 }
 
 // Whether the stamps that a shelf has seen are in range.
@@ -38,20 +34,14 @@ pub fn seen_fits(book: &[u32], n: Counts, d: Depot, s: Shelf) -> bool
     ensures { result ≡ seen_fit n book.now d.0 s.0 }
 {
     let at = seen_at(d, s);
-    let end = at + MOST_DEPOTS;
-    others_in_range(&book[at..end], n.depots, d.index())
+    others_in_range(&book[at..at + MOST_DEPOTS], n.depots, d.index())
 }
 
 // Whether a shelf of a depot is fit.
+#[tactic(auto, unfolding(crate::specs::Fit::shelf_fit))]
 pub fn shelf_fits(book: &[u32], n: Counts, d: Depot, s: Shelf) -> bool
     requires { (length book.now ≡ book_words) × (n.depots ≤ most_depots) × (d.0 < most_depots) × (s.0 < most_shelves) }
     ensures { result ≡ shelf_fit n book.now d.0 s.0 }
 {
-    if !clock_fits(book, d, s) {
-        return false;
-    }
-    if !stable_fits(book, n, d, s) {
-        return false;
-    }
-    seen_fits(book, n, d, s)
+    clock_fits(book, d, s) && stable_fits(book, n, d, s) && seen_fits(book, n, d, s)
 }
