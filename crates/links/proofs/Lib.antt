@@ -1,4 +1,5 @@
 pub mod SendFrame
+pub mod FourLaws
 pub mod SentLaws
 pub mod TookLaws
 mod SendCode

@@ -16,10 +16,7 @@ fn has_room(book: &[u32], d: Depot, s: Shelf, to: Depot) -> bool
     requires { (length book.now ≡ book_words) × (d.0 < most_depots) × (s.0 < most_shelves) × (to.0 < most_depots) }
     ensures { result ≡ eqb to.0 d.0 || ltb (held book.now (link_of s.0 d.0 to.0)) link_room }
 {
-    if to.index() == d.index() {
-        return true;
-    }
-    held_of(book, Link::between(s, d, to)) < LINK_ROOM
+    to == d || held_of(book, Link::between(s, d, to)) < LINK_ROOM
 }
 
 // Whether every link out of a shelf has room for one more message.
@@ -27,14 +24,7 @@ pub fn is_roomy(book: &[u32], n: usize, d: Depot, s: Shelf) -> bool
     requires { (length book.now ≡ book_words) × (n ≤ most_depots) × (d.0 < most_depots) × (s.0 < most_shelves) }
     ensures { result ≡ roomy n d.0 s.0 book.now }
 {
-    let mut to = 0;
-    while to < n {
-        if !has_room(book, d, s, Depot::nth(to, n)) {
-            return false;
-        }
-        to += 1;
-    }
-    true
+    (0..n).all(|to| has_room(book, d, s, Depot::nth(to, n)))
 }
 
 // The message goes on the link to a depot, unless that depot is this one.
@@ -43,7 +33,7 @@ fn send_to(book: &mut [u32], d: Depot, s: Shelf, message: &[u32], to: Depot)
         × (to.0 < most_depots) × ((to.0 ≡ d.0 → ⊥) → held book.old (link_of s.0 d.0 to.0) < link_room) }
     ensures { book.new ≡ sent_to d.0 s.0 message.now to.0 book.old }
 {
-    if to.index() == d.index() {
+    if to == d {
         return;
     }
     let q = Link::between(s, d, to);
@@ -58,9 +48,7 @@ pub fn send(book: &mut [u32], n: usize, d: Depot, s: Shelf, stamp: u32, message:
     ensures { book.new ≡ sent n d.0 s.0 stamp message.now book.old }
 {
     set_clock(book, d, s, stamp);
-    let mut to = 0;
-    while to < n {
+    for to in 0..n {
         send_to(book, d, s, message, Depot::nth(to, n));
-        to += 1;
     }
 }

@@ -12,10 +12,8 @@ pub fn put_words(out: &mut [u8], at: usize, words: &[u32])
     requires { at + 4 * length words.now ≤ length out.old }
     ensures { out.new ≡ put out.old at (bytes_of words.now) }
 {
-    let mut i = 0;
-    while i < words.len() {
+    for i in 0..words.len() {
         put_word(out, at + 4 * i, words[i]);
-        i += 1;
     }
 }
 
@@ -24,9 +22,7 @@ pub fn read_words(bytes: &[u8], at: usize, words: &mut [u32])
     requires { at + 4 * length words.old ≤ length bytes.now }
     ensures { words.new ≡ words_at bytes.now at (length words.old) }
 {
-    let mut i = 0;
-    while i < words.len() {
+    for i in 0..words.len() {
         words[i] = word_at(bytes, at + 4 * i);
-        i += 1;
     }
 }

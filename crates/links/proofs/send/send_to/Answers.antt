@@ -2,7 +2,8 @@
 -- Assumes nothing.
 use Prim.Native.Nat.{◌<◌}
 use native.Mathlib.Omega.{arith}
-use mathlib.Core.Path.{◌≡◌, ◌∙◌, sym, ap}
+use mathlib.Core.Path.{◌≡◌, ◌∙◌, ap}
+use borrow.Author.Tests.{true-eqb, false-eqb}
 use Rattle.book.specs.Layout.{held}
 use Rattle.links.proofs.SendCode.{send_done, send_none}
 use borrow.Author.Rules.{rules}
@@ -12,15 +13,15 @@ use Rattle.links.proofs.send.send_to.Tie as tie
 use Rattle.links.proofs.send.send_to.Reads as reads
 
 -- what is known at a place, for the lemmas below
-abbrev Else-index : Type 0
-Else-index = lts.Else1 tie.the-claims reads.Pre reads.Post
+abbrev Else-eq : Type 0
+Else-eq = lts.Else1 tie.the-claims reads.Pre reads.Post
 
 abbrev After-held_of-held : Type 0
 After-held_of-held = lts.After-held_of tie.the-claims reads.Pre reads.Post
 
 -- the receiver is another depot, and its link has room
-other : (c : Else-index) → let args = c.args in args.to.0 ≡ args.d.0 → ⊥
-other c e = c.if-index.false (c.index.ensures ∙ e ∙ sym c.index-2.ensures)
+other : (c : Else-eq) → let args = c.args in args.to.0 ≡ args.d.0 → ⊥
+other c = false-eqb _ _ c.if-eq.ensures
 
 room : (c : After-held_of-held) → c.held_of-held.result < 16
 room c =
@@ -28,8 +29,8 @@ room c =
     let e = c.held_of-held.ensures ∙ ap (held c.args.book.now) c.between-q.ensures in
     omega (arith, h, e)
 
-pub returns-then-index : goal.returns-then-index
-returns-then-index c = send_none _ _ _ _ _ (sym c.index.ensures ∙ c.if-index.true ∙ c.index-2.ensures)
+pub returns-then-eq : goal.returns-then-eq
+returns-then-eq c = send_none _ _ _ _ _ (true-eqb _ _ c.if-eq.ensures)
 
 pub slot_at-requires : goal.slot_at-requires
 slot_at-requires c = let h = room c.before.before in (search rules, omega (arith, h))
