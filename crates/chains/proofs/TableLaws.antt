@@ -2,7 +2,7 @@
 -- Assumes nothing.
 use Prim.Native.Nat.{ℕ, ◌+◌, ◌*◌, ◌/◌, ◌%◌, ◌^◌, ◌≤◌, ◌<◌}
 use native.Mathlib.Omega.{arith}
-use native.Mathlib.Nat.{le_antisymm, div-eq_of_lt}
+use native.Mathlib.Nat.{div-eq_of_lt}
 use mathlib.Core.Path.{◌≡◌, refl, sym, ◌∙◌, ap, ap₂}
 use mathlib.Core.Logic.{⊎_elim}
 use mathlib.Core.Bool.{Bool, true, false, ◌&&◌, ◌||◌, or_assoc, or-false}
@@ -118,9 +118,6 @@ turns_more {m} P x h k =
           k.bits a b la lb ∙ ap (λ (t : Bool). t || P x a b) (h.bits a b la lb) ∙ or_assoc (bit m a b) _ _
           ∙ ap (λ (t : Bool). bit m a b || t) (sym (some_more x (λ y. P y a b)));
     }
-
-pub turns_done : {m : List ℕ} (P : ℕ → Grid) {x n : ℕ} {l : List ℕ} → x ≤ n → n ≤ x → Adds m (turns x P) l → Adds m (turns n P) l
-turns_done P p q h = rw (← le_antisymm p q) h
 
 -- no turn of joining row k changes that row, or bit k of another; so each turn adds what it would have added at first
 module _ (m : List ℕ) (k x : ℕ) (l : List ℕ) (h : Adds m (turns x (joins (bit m) k)) l) (lk : k < 256) where

@@ -32,102 +32,74 @@ fn is_same(h: &[u32], p: usize, q: usize, n: usize) -> bool
     requires { (p + n ≤ length h.now) × (q + n ≤ length h.now) }
     ensures { result ≡ agree n (vector_at h.now p) (vector_at h.now q) }
 {
-    let mut x = 0;
-    while x < n {
-        let a = p + x;
-        let b = q + x;
-        if h[a] != h[b] {
-            return false;
-        }
-        x += 1;
-    }
-    true
+    h[p..p + n] == h[q..q + n]
 }
 
 // Whether entry j is a write of the version that entry i has.
+#[tactic(auto, unfolding(crate::specs::Entries::wrote))]
 fn is_wrote(h: &[u32], i: usize, j: usize) -> bool
     requires { Both h.now i j }
     ensures { result ≡ wrote h.now i j }
 {
     let a = i * ENTRY_WORDS;
     let b = j * ENTRY_WORDS;
-    if h[b] != WRITE {
-        return false;
-    }
-    if h[a + RECORD] != h[b + RECORD] {
-        return false;
-    }
-    is_same(h, a + ORIGIN, b + ORIGIN, RANK_WORDS)
+    h[b] == WRITE
+        && h[a + RECORD] == h[b + RECORD]
+        && is_same(h, a + ORIGIN, b + ORIGIN, RANK_WORDS)
 }
 
 // Whether entry j is a write of the version that entry i has, with its value and card.
+#[tactic(auto, unfolding(crate::specs::Entries::source))]
 pub fn is_source(h: &[u32], i: usize, j: usize) -> bool
     requires { Both h.now i j }
     ensures { result ≡ source h.now i j }
 {
     let a = i * ENTRY_WORDS;
     let b = j * ENTRY_WORDS;
-    if h[b] != WRITE {
-        return false;
-    }
-    is_same(h, a + RECORD, b + RECORD, RECORD_WORDS)
+    h[b] == WRITE && is_same(h, a + RECORD, b + RECORD, RECORD_WORDS)
 }
 
 // Whether entry j is another write of the version that entry i has.
+#[tactic(auto, unfolding(crate::specs::Entries::twin))]
 pub fn is_twin(h: &[u32], i: usize, j: usize) -> bool
     requires { Both h.now i j }
     ensures { result ≡ twin h.now i j }
 {
-    if i == j {
-        return false;
-    }
-    is_wrote(h, i, j)
+    i != j && is_wrote(h, i, j)
 }
 
 // Whether entry j is an earlier one of entry i's crew.
+#[tactic(auto, unfolding(crate::specs::Entries::earlier))]
 fn is_earlier(h: &[u32], i: usize, j: usize) -> bool
     requires { Both h.now i j }
     ensures { result ≡ earlier h.now i j }
 {
-    if i <= j {
-        return false;
-    }
-    h[i * ENTRY_WORDS + CREW] == h[j * ENTRY_WORDS + CREW]
+    j < i && h[i * ENTRY_WORDS + CREW] == h[j * ENTRY_WORDS + CREW]
 }
 
 // Whether entry i rests directly on entry j.
+#[tactic(auto, unfolding(crate::specs::Rests::rests_on))]
 pub fn rests_on(h: &[u32], i: usize, j: usize) -> bool
     requires { Both h.now i j }
     ensures { result ≡ rests_on h.now i j }
 {
-    if is_earlier(h, i, j) {
-        return true;
-    }
-    if h[i * ENTRY_WORDS] != READ {
-        return false;
-    }
-    is_wrote(h, i, j)
+    is_earlier(h, i, j) || h[i * ENTRY_WORDS] == READ && is_wrote(h, i, j)
 }
 
 // Whether entry i is a read that is lower than entry j, a write to the same bearing.
+#[tactic(auto, using(crate::proofs::EntryLaws::above_parts), unfolding(crate::specs::Rests::lower_than))]
 pub fn lower_than(h: &[u32], i: usize, j: usize) -> bool
     requires { Both h.now i j }
     ensures { result ≡ lower_than h.now i j }
 {
     let a = i * ENTRY_WORDS;
     let b = j * ENTRY_WORDS;
-    if h[a] != READ {
-        return false;
-    }
-    if h[b] != WRITE {
-        return false;
-    }
-    if h[a + RECORD] != h[b + RECORD] {
-        return false;
-    }
-    is_above(
-        &h[b + RECORD..b + ENTRY_WORDS],
-        &h[a + RECORD..a + ENTRY_WORDS],
-        MOST_DEPOTS,
-    )
+    h[a] == READ
+        && h[b] == WRITE
+        && h[a + RECORD] == h[b + RECORD]
+        && is_above(
+            &h[b + RECORD..b + ENTRY_WORDS],
+            &h[a + RECORD..a + ENTRY_WORDS],
+            MOST_DEPOTS,
+        )
 }

@@ -1,20 +1,18 @@
--- `entries::past::mark_row` meets its contract. The loop's invariant: the entries passed are marked.
+-- `entries::past::mark_row` meets its contract. The loop's invariant: the entries passed are marked. A step is marked, and what is none is not.
 -- Assumes nothing.
-use Prim.Native.Nat.{◌-◌}
-use borrow.Author.Rules.{rules}
-use Rattle.chains.proofs.TableLaws.{turns_none, turns_more, turns_done}
+use mathlib.Core.Path.{sym, ◌∙◌}
+use Rattle.chains.proofs.TableLaws.{turns_none, turns_more, adds_direct, adds_indirect}
 use Rattle.entries.proofs.past.mark_row.Goals as goal
+use Rattle.entries.proofs.past.mark_row.Goals.{then-rests_on, else-rests_on}
 
 pub loop-j-init : goal.loop-j-init
-loop-j-init c = (search rules, turns_none _ _ c.requires.0.sized)
-
-pub mark_if-requires : goal.mark_if-requires
-mark_if-requires c =
-    let pre = c.requires.0 in
-    (record { count = pre.count; few = pre.few; sized = c.loop-j.invariant.1.sized }, search rules, search rules)
+loop-j-init c = turns_none _ _ c.requires.0.sized
 
 pub loop-j-preserved : goal.loop-j-preserved
-loop-j-preserved c = (search rules, turns_more _ _ c.loop-j.invariant.1 c.mark_if.ensures)
-
-pub returns : goal.returns
-returns c = turns_done _ c.loop-j.invariant.0 c.loop-j-test.false c.loop-j.invariant.1
+loop-j-preserved c =
+    let old = c.loop-j.invariant in
+    turns_more _ _ old
+    (elim c.if-rests_on.branch [
+      | then-rests_on w ↦ rw w.past-is (adds_direct _ _ _ (sym c.rests_on.ensures ∙ w.if-rests_on.true) w.mark.ensures)
+      | else-rests_on w ↦ rw w.past-is (adds_indirect _ _ _ old.sized (sym c.rests_on.ensures ∙ w.if-rests_on.false))
+    ])
