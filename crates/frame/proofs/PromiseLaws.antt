@@ -1,5 +1,6 @@
 -- From a number to the answer and the buffer after it; and the two tables, row by row.
 -- Assumes nothing.
+use Rattle.std.specs.Prelude.{Result, Ok, Err}
 use Prim.Native.Nat.{ℕ, ◌+◌, ◌-◌, ◌*◌, ◌≤◌, ◌<◌}
 use native.Mathlib.Omega.{arith}
 use native.Mathlib.Nat.{lt_of_lt_of_le}
@@ -22,8 +23,6 @@ use Rattle.register.proofs.TableLaws.{first_stop, first_next, first_none, three_
 use Rattle.frame.specs.declared.Route.{Route}
 use Rattle.frame.specs.declared.FrameRefusal.{FrameRefusal}
 use Rattle.frame.specs.declared.FrameRefusal.TheVariants.{Link, NoRoom, BadCount, BadFrame, Old, Gap}
-use Rattle.frame.specs.declared.FrameAnswer.{FrameAnswer}
-use Rattle.frame.specs.declared.FrameAnswer.TheVariants.{Done, Refused}
 use Rattle.frame.specs.Frame.{frame_size, count_in, serial_in, formed, is_old, is_expected}
 use Rattle.frame.specs.Promises.{frame_number, Tells, Outcome, Ready, route_in, untaken, link_read, bad_count, writer_number, arrival_rows, reader_number}
 use Rattle.frame.specs.Stretch.{Known}
@@ -40,15 +39,15 @@ counts BadFrame = refl
 counts Old = refl
 counts Gap = refl
 
-pub refused_as : {number : ℕ} (x : FrameRefusal) (told : ℕ) (made o : List ℕ) → number ≡ frame_number x → Outcome number told made o (Refused x) o
+pub refused_as : {number : ℕ} (x : FrameRefusal) (told : ℕ) (made o : List ℕ) → number ≡ frame_number x → Outcome number told made o (Err x) o
 unfolding Tells
 refused_as x told made o e = record { answer = e; buffer = sym (pick_false _ _ (ap (λ (n : ℕ). eqb n 0) e ∙ counts x)) }
 
-pub done_as : {number n told : ℕ} {made o o' : List ℕ} → number ≡ 0 → n ≡ told → o' ≡ made → Outcome number told made o (Done n) o'
+pub done_as : {number n told : ℕ} {made o o' : List ℕ} → number ≡ 0 → n ≡ told → o' ≡ made → Outcome number told made o (Ok n) o'
 unfolding Tells
 done_as {number} e t m = record { answer = (e, t); buffer = m ∙ sym (pick_true _ _ (eq-eqb number 0 e)) }
 
-pub outcome_same : {number other told : ℕ} {made o o' : List ℕ} {a : FrameAnswer} → other ≡ number → Outcome number told made o a o' → Outcome other told made o a o'
+pub outcome_same : {number other told : ℕ} {made o o' : List ℕ} {a : Result ℕ FrameRefusal} → other ≡ number → Outcome number told made o a o' → Outcome other told made o a o'
 outcome_same {told = told} {made = made} {o = o} {o' = o'} {a = a} e h = subst (λ (n : ℕ). Outcome n told made o a o') (sym e) h
 
 -- ---- the numbers of a link

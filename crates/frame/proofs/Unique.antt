@@ -1,5 +1,6 @@
 -- The promises of the writer and the reader leave one answer and one buffer.
 -- Assumes nothing.
+use Rattle.std.specs.Prelude.{Result, Ok, Err}
 use Prim.Native.Nat.{ℕ}
 use native.Mathlib.Omega.{arith}
 use mathlib.Core.Path.{◌≡◌, refl, sym, ◌∙◌, ap}
@@ -15,8 +16,6 @@ use Rattle.paper.specs.Answers.{number_of}
 use Rattle.paper.proofs.Settles.{number_settles}
 use Rattle.frame.specs.declared.FrameRefusal.{FrameRefusal}
 use Rattle.frame.specs.declared.FrameRefusal.TheVariants.{Link, NoRoom, BadCount, BadFrame, Old, Gap}
-use Rattle.frame.specs.declared.FrameAnswer.{FrameAnswer}
-use Rattle.frame.specs.declared.FrameAnswer.TheVariants.{Done, Refused}
 use Rattle.frame.specs.Promises.{frame_number, Tells, Outcome}
 use Rattle.frame.proofs.PromiseLaws.{counts}
 
@@ -66,14 +65,14 @@ frame_number_settles BadFrame (Link s) e = sym (sym (own_back (Link s)) ∙ ap (
 frame_number_settles Old (Link s) e = sym (sym (own_back (Link s)) ∙ ap (λ (n : ℕ). own n (Link s)) (sym e))
 frame_number_settles Gap (Link s) e = sym (sym (own_back (Link s)) ∙ ap (λ (n : ℕ). own n (Link s)) (sym e))
 
-tells_settles : (number told : ℕ) (a b : FrameAnswer) → Tells number told a → Tells number told b → a ≡ b
+tells_settles : (number told : ℕ) (a b : Result ℕ FrameRefusal) → Tells number told a → Tells number told b → a ≡ b
 unfolding Tells
-tells_settles number told (Done n) (Done m) p q = ap Done (p.1 ∙ sym q.1)
-tells_settles number told (Done n) (Refused y) p q = absurd (both_ways (eq-eqb _ _ (sym q ∙ p.0)) (counts y))
-tells_settles number told (Refused x) (Done m) p q = absurd (both_ways (eq-eqb _ _ (sym p ∙ q.0)) (counts x))
-tells_settles number told (Refused x) (Refused y) p q = ap Refused (frame_number_settles x y (sym p ∙ q))
+tells_settles number told (Ok n) (Ok m) p q = ap Ok (p.1 ∙ sym q.1)
+tells_settles number told (Ok n) (Err y) p q = absurd (both_ways (eq-eqb _ _ (sym q ∙ p.0)) (counts y))
+tells_settles number told (Err x) (Ok m) p q = absurd (both_ways (eq-eqb _ _ (sym p ∙ q.0)) (counts x))
+tells_settles number told (Err x) (Err y) p q = ap Err (frame_number_settles x y (sym p ∙ q))
 
 -- of a writer as of a reader, for both promise an outcome
 pub outcome_unique :
-    {number told : ℕ} {made o one other : List ℕ} {a b : FrameAnswer} → Outcome number told made o a one → Outcome number told made o b other → (a ≡ b) × (one ≡ other)
+    {number told : ℕ} {made o one other : List ℕ} {a b : Result ℕ FrameRefusal} → Outcome number told made o a one → Outcome number told made o b other → (a ≡ b) × (one ≡ other)
 outcome_unique {number} {told} {made} {o} {one} {other} {a} {b} p q = (tells_settles number told a b p.answer q.answer, p.buffer ∙ sym q.buffer)

@@ -1,7 +1,7 @@
 -- The promises of the writer and the reader of frames: the number of the first check that fails, 0 where none does, and every byte or word of the buffer
 -- after it. The book is only read.
 -- Assumes nothing.
-use Rattle.std.specs.Prelude.{ℕ, ◌+◌, ◌-◌, ◌*◌, ◌<◌, ◌≡◌, Bool, ◌&&◌, ◌||◌, not, List, [], ◌∷◌, eqb, ltb, leb, length}
+use Rattle.std.specs.Prelude.{ℕ, ◌+◌, ◌-◌, ◌*◌, ◌<◌, ◌≡◌, Bool, ◌&&◌, ◌||◌, not, List, [], ◌∷◌, eqb, ltb, leb, length, Result, Ok, Err}
 use Rattle.loops.specs.Loops.{pick}
 use Rattle.book.specs.Words.{put}
 use Rattle.book.specs.Layout.{most_shelves, link_room, slot_words, counts_of, link_of, held, taken, slot}
@@ -11,8 +11,6 @@ use Rattle.paper.specs.Calls.{first}
 use Rattle.paper.specs.Answers.{number_of}
 use Rattle.frame.specs.declared.FrameRefusal.{FrameRefusal}
 use Rattle.frame.specs.declared.FrameRefusal.TheVariants.{Link, NoRoom, BadCount, BadFrame, Old, Gap}
-use Rattle.frame.specs.declared.FrameAnswer.{FrameAnswer}
-use Rattle.frame.specs.declared.FrameAnswer.TheVariants.{Done, Refused}
 use Rattle.frame.specs.declared.Route.{Route}
 use Rattle.frame.specs.Frame.{encode_frame, frame_size, count_in, serial_in, formed, body_in, is_old, is_expected}
 
@@ -26,12 +24,12 @@ frame_number Old = 103
 frame_number Gap = 104
 
 -- the answer by a number: done, with what is told, where it is 0; else the refusal that has it
-unfoldable pub Tells : ℕ → ℕ → FrameAnswer → Type 0
-Tells number told (Done n) = (number ≡ 0) × (n ≡ told)
-Tells number told (Refused r) = number ≡ frame_number r
+unfoldable pub Tells : ℕ → ℕ → Result ℕ FrameRefusal → Type 0
+Tells number told (Ok n) = (number ≡ 0) × (n ≡ told)
+Tells number told (Err r) = number ≡ frame_number r
 
 -- the answer a and the buffer o' after it: as it is made where the number is 0, else as it was
-pub record Outcome (number told : ℕ) (made o : List ℕ) (a : FrameAnswer) (o' : List ℕ) : Type 0 where
+pub record Outcome (number told : ℕ) (made o : List ℕ) (a : Result ℕ FrameRefusal) (o' : List ℕ) : Type 0 where
   pub answer : Tells number told a
   pub buffer : o' ≡ pick (eqb number 0) made o
 
@@ -76,7 +74,7 @@ writer_number l d s from count room = first
     ∷ [])
 
 -- a book l, a link, a count and a serial; a buffer o before and o' after
-abbrev pub Written : List ℕ → ℕ → ℕ → ℕ → ℕ → ℕ → List ℕ → FrameAnswer → List ℕ → Type 0
+abbrev pub Written : List ℕ → ℕ → ℕ → ℕ → ℕ → ℕ → List ℕ → Result ℕ FrameRefusal → List ℕ → Type 0
 Written l d s from count serial o =
     Outcome
     (writer_number l d s from count (length o))
@@ -104,5 +102,5 @@ reader_number l d s from expected f room = first
     ∷ arrival_rows (route_in l d s from) expected f room)
 
 -- a book l, a link, the serial that is expected, and the bytes f; a buffer o before and o' after
-abbrev pub WasRead : List ℕ → ℕ → ℕ → ℕ → ℕ → List ℕ → List ℕ → FrameAnswer → List ℕ → Type 0
+abbrev pub WasRead : List ℕ → ℕ → ℕ → ℕ → ℕ → List ℕ → List ℕ → Result ℕ FrameRefusal → List ℕ → Type 0
 WasRead l d s from expected f o = Outcome (reader_number l d s from expected f (length o)) (count_in f) (put o 0 (body_in (route_in l d s from) f)) o

@@ -1,8 +1,9 @@
-// What the writer and the reader of frames share: the link, the size of a message, the first byte, and what they answer.
+// What the writer and the reader of frames share: the link, the size of a message, the first byte, and why they refuse.
 #![tactic(auto)]
 
 ghost use Rattle.std.specs.Prelude.{◌≡◌, ◌≤◌, ◌<◌};
 ghost use Rattle.order.specs.Record.{most_depots};
+ghost use Rattle.frame.specs.declared.FrameRefusal.TheVariants.{Link};
 ghost use Rattle.frame.specs.Frame.{size_of, whom};
 ghost use Rattle.frame.specs.Promises.{Ready};
 
@@ -37,11 +38,12 @@ pub enum FrameRefusal {
     Gap,
 }
 
-// Done: how many bytes the frame has that was written, or how many messages were handed out.
-#[derive(Clone, Copy)]
-pub enum FrameAnswer {
-    Done(usize),
-    Refused(FrameRefusal),
+impl From<Refusal> for FrameRefusal {
+    ghost from_gives = { λ refusal e. e ≡ Link refusal };
+
+    fn from(refusal: Refusal) -> FrameRefusal {
+        FrameRefusal::Link(refusal)
+    }
 }
 
 // How many bytes a message of this kind takes; 0 where there is no such kind.

@@ -13,7 +13,7 @@ use book::layout::SLOT_WORDS;
 use book::numbers::{Depot, Numbered, Shelf};
 use book::parts::counts_of;
 use book::words::write_words;
-use frame::{FRONT, FrameAnswer, FrameRefusal, OFFSET, Route, size_of};
+use frame::{FRONT, FrameRefusal, OFFSET, Route, size_of};
 use frame_form::{is_formed, message_at, word_of_byte};
 use paper::answer::Refusal;
 use register::check::{LinkCheck, check_link};
@@ -37,7 +37,7 @@ fn hand_out(f: &[u8], way: Route, count: usize, out: &mut [u32])
 }
 
 // A frame for a link where this serial is expected: its form, its serial, the room.
-fn read_on(f: &[u8], way: Route, expected: u16, out: &mut [u32]) -> FrameAnswer
+fn read_on(f: &[u8], way: Route, expected: u16, out: &mut [u32]) -> Result<usize, FrameRefusal>
     requires { Ready way }
     ensures { Outcome
         (first (arrival_rows way expected f.now (length out.old)))
@@ -46,22 +46,22 @@ fn read_on(f: &[u8], way: Route, expected: u16, out: &mut [u32]) -> FrameAnswer
         out.old result out.new }
 {
     if !is_formed(f, way) {
-        return FrameAnswer::Refused(FrameRefusal::BadFrame);
+        return Err(FrameRefusal::BadFrame);
     }
     let serial = half_at(f, OFFSET) as u16;
     let behind = std::num::wrapping_sub_u16(expected, serial);
     if behind != 0 {
         if behind <= 32767 {
-            return FrameAnswer::Refused(FrameRefusal::Old);
+            return Err(FrameRefusal::Old);
         }
-        return FrameAnswer::Refused(FrameRefusal::Gap);
+        return Err(FrameRefusal::Gap);
     }
     let count = wide_byte(f[1]);
     if out.len() < SLOT_WORDS * count {
-        return FrameAnswer::Refused(FrameRefusal::NoRoom);
+        return Err(FrameRefusal::NoRoom);
     }
     hand_out(f, way, count, out);
-    FrameAnswer::Done(count)
+    Ok(count)
 }
 
 // The same for numbers that were checked.
@@ -73,12 +73,12 @@ fn read_at(
     expected: u16,
     f: &[u8],
     out: &mut [u32],
-) -> FrameAnswer
+) -> Result<usize, FrameRefusal>
     requires { (base_fit book.now ≡ true) × (d.0 < (counts_of book.now).depots) × (from.0 < (counts_of book.now).depots) × (s.0 < (counts_of book.now).shelves) }
     ensures { WasRead book.now d.0 s.0 from.0 expected f.now out.old result out.new }
 {
     if d.index() == from.index() {
-        return FrameAnswer::Refused(FrameRefusal::Link(Refusal::SameDepot));
+        return Err(FrameRefusal::Link(Refusal::SameDepot));
     }
     let n = counts_of(book);
     read_on(
@@ -94,7 +94,7 @@ fn read_at(
     )
 }
 
-// Refuses, in this order: BAD BOOK, BAD DEPOT (either), BAD SHELF, SAME DEPOT, BAD FRAME, OLD, GAP, NO ROOM.
+// Answers how many messages were handed out. Refuses, in this order: BAD BOOK, BAD DEPOT (either), BAD SHELF, SAME DEPOT, BAD FRAME, OLD, GAP, NO ROOM.
 pub fn read_frame(
     book: &[u32],
     depot: u32,
@@ -103,11 +103,11 @@ pub fn read_frame(
     expected: u16,
     frame: &[u8],
     out: &mut [u32],
-) -> FrameAnswer
+) -> Result<usize, FrameRefusal>
     ensures { WasRead book.now depot shelf from expected frame.now out.old result out.new }
 {
     match check_link(book, depot, shelf, from) {
-        LinkCheck::Bad(r) => FrameAnswer::Refused(FrameRefusal::Link(r)),
+        LinkCheck::Bad(r) => Err(FrameRefusal::Link(r)),
         LinkCheck::Good(d, s, o) => read_at(book, d, s, o, expected, frame, out),
     }
 }

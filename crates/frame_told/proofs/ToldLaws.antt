@@ -1,5 +1,6 @@
 -- From an answer to its number; and what is told is a word.
 -- Assumes nothing.
+use Rattle.std.specs.Prelude.{Result, Ok, Err}
 use Prim.Native.Nat.{ℕ, ◌+◌, ◌*◌, ◌≤◌, ◌<◌}
 use native.Mathlib.Omega.{arith}
 use mathlib.Core.Path.{◌≡◌, refl, sym, ◌∙◌, ap, subst}
@@ -12,8 +13,6 @@ use Rattle.loops.specs.Loops.{pick}
 use Rattle.loops.proofs.BoolLaws.{and_next, and_stop, pick_true, pick_false}
 use Rattle.fit.specs.Fit.{between}
 use Rattle.frame.specs.declared.FrameRefusal.{FrameRefusal}
-use Rattle.frame.specs.declared.FrameAnswer.{FrameAnswer}
-use Rattle.frame.specs.declared.FrameAnswer.TheVariants.{Done, Refused}
 use Rattle.frame.specs.Frame.{place_of, frame_size, count_in}
 use Rattle.frame.specs.Promises.{frame_number, Tells, Outcome, route_in, untaken, writer_number, reader_number}
 use Rattle.frame.proofs.EncodeLaws.{sizes_most}
@@ -23,7 +22,7 @@ use Rattle.named.proofs.NamedLaws.{base_open}
 use Rattle.frame_told.specs.Told.{InNumbers}
 
 -- what is told where it is done
-pub done_number : (number told : ℕ) (made o : List ℕ) {a : FrameAnswer} {o' : List ℕ} {n : ℕ} → Outcome number told made o a o' → a ≡ Done n → (number ≡ 0) × (n ≡ told)
+pub done_number : (number told : ℕ) (made o : List ℕ) {a : Result ℕ FrameRefusal} {o' : List ℕ} {n : ℕ} → Outcome number told made o a o' → a ≡ Ok n → (number ≡ 0) × (n ≡ told)
 unfolding Tells
 done_number number told made o w e = subst (Tells number told) e w.answer
 
@@ -42,7 +41,7 @@ module _ (number told : ℕ) (made o t : List ℕ) where
     yes' : leb 1 (length t) ≡ true
     yes' = le-leb _ _ h
 
-    pub told_refused : {a : FrameAnswer} {o' : List ℕ} {r : ℕ} (x : FrameRefusal) → Outcome number told made o a o' → a ≡ Refused x → r ≡ frame_number x → InNumbers number told made o t r o' t
+    pub told_refused : {a : Result ℕ FrameRefusal} {o' : List ℕ} {r : ℕ} (x : FrameRefusal) → Outcome number told made o a o' → a ≡ Err x → r ≡ frame_number x → InNumbers number told made o t r o' t
     unfolding Tells
     told_refused {a} {o'} {r} x w e q =
         let n : number ≡ frame_number x = subst (Tells number told) e w.answer in
@@ -54,7 +53,7 @@ module _ (number told : ℕ) (made o t : List ℕ) where
         }
 
     pub told_done :
-        {a : FrameAnswer} {o' t' : List ℕ} {n : ℕ} → Outcome number told made o a o' → a ≡ Done n → t' ≡ set t 0 n → InNumbers number told made o t 0 o' t'
+        {a : Result ℕ FrameRefusal} {o' t' : List ℕ} {n : ℕ} → Outcome number told made o a o' → a ≡ Ok n → t' ≡ set t 0 n → InNumbers number told made o t 0 o' t'
     told_done {n = n} w e q =
         let d = done_number number told made o w e in
         let is : eqb number 0 ≡ true = eq-eqb number 0 d.0 in

@@ -5,7 +5,7 @@ ghost use Rattle.std.specs.Prelude.{◌≡◌};
 ghost use Rattle.frame.specs.Promises.{frame_number};
 ghost use Rattle.frame_told.specs.Told.{WrittenTold, ReadTold};
 
-use frame::{FrameAnswer, FrameRefusal};
+use frame::FrameRefusal;
 use frame_reader::read_frame;
 use frame_writer::write_frame;
 use paper::number::number_of;
@@ -17,6 +17,7 @@ pub const TOLD_WORDS: usize = 1;
 pub const NO_ROOM: u32 = 100;
 
 // The number of a refusal.
+#[tactic(auto, unfolding(frame::specs::Promises::frame_number))]
 pub fn frame_number(refusal: FrameRefusal) -> u32
     ensures { result ≡ frame_number refusal }
 {
@@ -47,8 +48,8 @@ pub fn write_told(
         return NO_ROOM;
     }
     match write_frame(book, depot, shelf, from, count, serial, out) {
-        FrameAnswer::Refused(refusal) => frame_number(refusal),
-        FrameAnswer::Done(size) => {
+        Err(refusal) => frame_number(refusal),
+        Ok(size) => {
             told[0] = size as u32;
             0
         }
@@ -72,8 +73,8 @@ pub fn read_told(
         return NO_ROOM;
     }
     match read_frame(book, depot, shelf, from, expected, frame, out) {
-        FrameAnswer::Refused(refusal) => frame_number(refusal),
-        FrameAnswer::Done(count) => {
+        Err(refusal) => frame_number(refusal),
+        Ok(count) => {
             told[0] = count as u32;
             0
         }

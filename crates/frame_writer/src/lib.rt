@@ -10,7 +10,7 @@ ghost use Rattle.frame.specs.Promises.{bad_count, Written};
 use book::layout::{LINK_ROOM, Link};
 use book::numbers::{Depot, Numbered, Shelf};
 use book::parts::{Counts, counts_of, held_of, taken_of, wide};
-use frame::{FrameAnswer, FrameRefusal, Route};
+use frame::{FrameRefusal, Route};
 use frame_bytes::{put_frame, size_of_frame};
 use messages::{head_fits, waiting_fit};
 use paper::answer::Refusal;
@@ -51,30 +51,30 @@ fn write_at(
     count: u32,
     serial: u16,
     out: &mut [u8],
-) -> FrameAnswer
+) -> Result<usize, FrameRefusal>
     requires { (base_fit book.now ≡ true) × (d.0 < (counts_of book.now).depots) × (from.0 < (counts_of book.now).depots) × (s.0 < (counts_of book.now).shelves) }
     ensures { Written book.now d.0 s.0 from.0 count serial out.old result out.new }
 {
     if d.index() == from.index() {
-        return FrameAnswer::Refused(FrameRefusal::Link(Refusal::SameDepot));
+        return Err(FrameRefusal::Link(Refusal::SameDepot));
     }
     let n = counts_of(book);
     let q = Link::between(s, from, d);
     if !waiting_fits(book, n, s, from, q) {
-        return FrameAnswer::Refused(FrameRefusal::Link(Refusal::BadBook));
+        return Err(FrameRefusal::Link(Refusal::BadBook));
     }
     let messages = held_of(book, q);
     let taken = taken_of(book, q);
     if messages <= taken {
-        return FrameAnswer::Refused(FrameRefusal::Link(Refusal::EmptyLink));
+        return Err(FrameRefusal::Link(Refusal::EmptyLink));
     }
     let some = wide(count);
     if !is_count(some, messages - taken) {
-        return FrameAnswer::Refused(FrameRefusal::BadCount);
+        return Err(FrameRefusal::BadCount);
     }
     let size = size_of_frame(book, q, taken, some, n.depots);
     if out.len() < size {
-        return FrameAnswer::Refused(FrameRefusal::NoRoom);
+        return Err(FrameRefusal::NoRoom);
     }
     let way = Route {
         counts: n,
@@ -83,10 +83,11 @@ fn write_at(
         to: d,
     };
     put_frame(out, book, way, q, taken, some, serial);
-    FrameAnswer::Done(size)
+    Ok(size)
 }
 
-// Refuses, in this order: BAD BOOK, BAD DEPOT (either), BAD SHELF, SAME DEPOT, EMPTY LINK, BAD COUNT, NO ROOM.
+// Answers how many bytes the frame has that was written. Refuses, in this order: BAD BOOK, BAD DEPOT (either), BAD SHELF, SAME DEPOT, EMPTY LINK, BAD COUNT,
+// NO ROOM.
 pub fn write_frame(
     book: &[u32],
     depot: u32,
@@ -95,11 +96,11 @@ pub fn write_frame(
     count: u32,
     serial: u16,
     out: &mut [u8],
-) -> FrameAnswer
+) -> Result<usize, FrameRefusal>
     ensures { Written book.now depot shelf from count serial out.old result out.new }
 {
     match check_link(book, depot, shelf, from) {
-        LinkCheck::Bad(r) => FrameAnswer::Refused(FrameRefusal::Link(r)),
+        LinkCheck::Bad(r) => Err(FrameRefusal::Link(r)),
         LinkCheck::Good(d, s, o) => write_at(book, d, s, o, count, serial, out),
     }
 }

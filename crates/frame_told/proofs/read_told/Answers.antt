@@ -10,13 +10,13 @@ returns-then-told-lt-TOLD_WORDS c = told_no_room _ _ _ _ _ c.if-told-lt-TOLD_WOR
 
 pub overflow_cast-told : goal.overflow_cast-told
 overflow_cast-told c =
-    let d = done_number _ _ _ _ c.read_frame.ensures c.in-Done.is in
+    let d = done_number _ _ _ _ c.read_frame.ensures c.in-Ok.is in
     omega (arith, d.1, c.shared_slice_known-2-1.given 1)
 
-pub returns-in-Refused : goal.returns-in-Refused
-returns-in-Refused c = told_refused _ _ _ _ _ c.if-told-lt-TOLD_WORDS.false _
-    c.read_frame.ensures c.in-Refused.is c.frame_number.ensures
+pub returns-in-Err : goal.returns-in-Err
+returns-in-Err c = told_refused _ _ _ _ _ c.if-told-lt-TOLD_WORDS.false _
+    c.read_frame.ensures c.in-Err.is c.frame_number.ensures
 
-pub returns-in-Done : goal.returns-in-Done
-returns-in-Done c = told_done _ _ _ _ _ c.if-told-lt-TOLD_WORDS.false
-    c.read_frame.ensures c.in-Done.is refl
+pub returns-in-Ok : goal.returns-in-Ok
+returns-in-Ok c = told_done _ _ _ _ _ c.if-told-lt-TOLD_WORDS.false
+    c.read_frame.ensures c.in-Ok.is refl
