@@ -6,7 +6,7 @@ ghost use Rattle.fit.specs.Fit.{Within, crew_fit, homes_fit};
 
 use crate::range::others_in_range;
 use book::layout::crew_at;
-use book::numbers::Crew;
+use book::numbers::{Crew, Numbered};
 use book::parts::{Counts, home_of, wide};
 use order::record::MOST_DEPOTS;
 

@@ -7,7 +7,7 @@ ghost use Rattle.book.specs.Layout.{book_words, most_shelves};
 ghost use Rattle.links.specs.Send.{lowest_seen, four_of};
 
 use book::layout::{END, seen_at};
-use book::numbers::{Depot, Shelf};
+use book::numbers::{Depot, Numbered, Shelf};
 use std::array;
 
 // The lowest stamp seen from depot x, of n, over the p shelves of a depot; 0 for this depot itself, and past the last.
