@@ -8,6 +8,7 @@ ghost use Rattle.frame.specs.Promises.{Ready};
 ghost use Rattle.frame_form.specs.Asks.{There};
 
 use book::layout::{BEAT, LINK_ROOM};
+use book::numbers::Numbered;
 use frame::{FRONT, OFFSET, Route, size_of, whom_of};
 use messages::message_fits;
 use wire::{half_at, wide_byte, word_at};
