@@ -40,10 +40,6 @@ highest_more x v p q = times_more x _ _ p q
 pub entry_by : (n : ℕ) (v : Vec) {o p e : ℕ} → e ≡ entry_of n o v → o ≡ p → e ≡ entry_of n p v
 entry_by n v q r = q ∙ ap (λ (x : ℕ). entry_of n x v) r
 
--- a division by a number that is a numeral
-pub mod_by : (b p : ℕ) {m : ℕ} → p ≡ m → b % m ≡ b % p
-mod_by b p e = ap (λ (x : ℕ). b % x) (sym e)
-
 -- ---- what the highest entry tells
 
 highest_at : (n : ℕ) (v : Vec) (x : ℕ) → x < n → v x ≤ highest n v

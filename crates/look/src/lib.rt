@@ -1,7 +1,7 @@
 // One look over a version record: its highest entry, its origin and its stamp; and whether it holds a card.
 #![tactic(auto)]
 
-ghost use Rattle.std.specs.Prelude.{◌≡◌, ◌≤◌, max, length};
+ghost use Rattle.std.specs.Prelude.{◌≡◌, ◌≤◌, length};
 ghost use Rattle.order.specs.Record.{most_depots, record_words, diameter_of, width_of, origin_of, vector_of};
 ghost use Rattle.card.specs.Card.{card_fit};
 ghost use Rattle.look.specs.Look.{highest, entry_of};
@@ -17,15 +17,6 @@ pub struct Found {
     pub highest: u32,
     pub origin: usize,
     pub stamp: u32,
-}
-
-fn larger(a: u32, b: u32) -> u32
-    ensures { result ≡ max a b }
-{
-    if a < b {
-        return b;
-    }
-    a
 }
 
 // The entry of depot o, or 0 where o is none of the n depots.
@@ -45,17 +36,15 @@ pub fn look(version: &[u32], n: usize) -> Found
         × (result.stamp ≡ entry_of n (origin_of version.now) (vector_of version.now)) }
 {
     let origin = wide(version[ORIGIN]);
-    let mut top: u32 = 0;
-    let mut x = 0;
-    while x < n {
-        top = larger(top, version[VECTOR + x]);
-        x += 1;
+    let mut highest: u32 = 0;
+    for x in 0..n {
+        highest = highest.max(version[VECTOR + x]);
     }
     let stamp = entry_of(version, n, origin);
     Found {
-        highest: top,
-        origin: origin,
-        stamp: stamp,
+        highest,
+        origin,
+        stamp,
     }
 }
 

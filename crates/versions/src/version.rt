@@ -15,16 +15,12 @@ fn shelf_of(bearing: usize, shelves: usize) -> usize
     requires { 0 < shelves }
     ensures { result ≡ bearing % shelves }
 {
-    if shelves == 2 {
-        return bearing % 2;
+    match shelves {
+        2 => bearing % 2,
+        3 => bearing % 3,
+        4 => bearing % 4,
+        _ => bearing % shelves,
     }
-    if shelves == 3 {
-        return bearing % 3;
-    }
-    if shelves == 4 {
-        return bearing % 4;
-    }
-    bearing % shelves
 }
 
 // Whether a record may be carried by the link of a shelf out of a depot.
@@ -33,23 +29,13 @@ pub fn carried_fits(version: &[u32], n: Counts, s: Shelf, from: Depot) -> bool
     ensures { result ≡ carried_fit n s.0 from.0 version.now }
 {
     let found = look(version, n.depots);
-    if END < found.highest {
-        return false;
-    }
-    if found.stamp == 0 {
-        return false;
-    }
-    if !has_card(version) {
-        return false;
-    }
-    if found.origin != from.index() {
-        return false;
-    }
     let bearing = wide(version[BEARING]);
-    if n.bearings <= bearing {
-        return false;
-    }
-    shelf_of(bearing, n.shelves) == s.index()
+    found.highest <= END
+        && found.stamp != 0
+        && has_card(version)
+        && found.origin == from.index()
+        && bearing < n.bearings
+        && shelf_of(bearing, n.shelves) == s.index()
 }
 
 // Whether a record may be stored for a bearing.
@@ -61,16 +47,10 @@ fn kept_fits(version: &[u32], n: Counts, k: Bearing) -> bool
     if found.highest == 0 {
         return true;
     }
-    if END < found.highest {
-        return false;
-    }
-    if found.stamp == 0 {
-        return false;
-    }
-    if !has_card(version) {
-        return false;
-    }
-    wide(version[BEARING]) == k.index()
+    found.highest <= END
+        && found.stamp != 0
+        && has_card(version)
+        && wide(version[BEARING]) == k.index()
 }
 
 // Whether the stored version of a bearing at a depot is fit.
@@ -79,6 +59,5 @@ pub fn stored_fits(book: &[u32], n: Counts, d: Depot, k: Bearing) -> bool
     ensures { result ≡ stored_fit n book.now d.0 k.0 }
 {
     let at = stored_at(d, k);
-    let end = at + RECORD_WORDS;
-    kept_fits(&book[at..end], n, k)
+    kept_fits(&book[at..at + RECORD_WORDS], n, k)
 }
