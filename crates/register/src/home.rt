@@ -12,6 +12,7 @@ use book::layout::crew_at;
 use book::numbers::{Bearing, Crew, Depot, Numbered, Shelf};
 use book::parts::{Counts, home_of, wide};
 use shelf::show::settle;
+use std::array;
 
 // The home depot of a crew.
 pub fn home_depot(book: &[u32], n: Counts, c: Crew) -> Depot
@@ -36,7 +37,7 @@ pub fn crew_vector(book: &[u32], c: Crew) -> [u32; 4]
     ensures { result ≡ four_of (crew_vector book.now c.0) }
 {
     let at = crew_at(c);
-    [book[at], book[at + 1], book[at + 2], book[at + 3]]
+    array::from_fn(|x| book[at + x])
 }
 
 // Raise and show with the crew's vector.
@@ -64,10 +65,5 @@ pub fn cut_vector(v: &[u32], n: usize) -> [u32; 4]
     requires { n ≤ length v.now }
     ensures { result ≡ cut n (vector_in v.now) }
 {
-    [
-        entry_below(v, n, 0),
-        entry_below(v, n, 1),
-        entry_below(v, n, 2),
-        entry_below(v, n, 3),
-    ]
+    array::from_fn(|x| entry_below(v, n, x))
 }
