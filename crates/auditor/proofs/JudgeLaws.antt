@@ -1,7 +1,7 @@
 -- From the first entry that a search finds, over the table of pasts, to what is found.
 -- Assumes nothing.
-use Prim.Native.Nat.{ℕ, ◌<◌}
-use native.Mathlib.Nat.{lt_irrefl}
+use Prim.Native.Nat.{ℕ, ◌≤◌, ◌<◌}
+use native.Mathlib.Nat.{lt_of_lt_of_le, lt_irrefl}
 use native.Mathlib.Omega.{arith}
 use mathlib.Core.Path.{◌≡◌, refl}
 use mathlib.Core.Bool.{Bool, true}
@@ -25,28 +25,37 @@ search_found P i l h f = record { within = omega arith; here = λ m. h; before =
 pub search_end : {n : ℕ} (P : ℕ → Type 0) (i : ℕ) → i ≡ n → ((j : ℕ) → j < i → P j → ⊥) → Search n P i
 search_end P i e f = record { within = omega arith; here = λ l. absurd (omega arith); before = f }
 
--- what the first place that passes p says of Q, if p is the test of Q; and so none
-module _ {n m : ℕ} (count : n ≡ m) {p : ℕ → Bool} {Q : ℕ → Type 0} (to : (j : ℕ) → j < m → p j ≡ true → Q j) (from : (j : ℕ) → j < m → Q j → p j ≡ true) where
-  pub named : {A : Type 0} {f : ℕ → A} {Rest : A → Type 0} {r : ℕ} → PassesFirst n p r → Names m Q f Rest (f r)
-  named (l, so, before) = first (record { below = omega arith; here = to _ (omega arith) so; before = λ j k q. both_ways (from j (omega arith) q) (before j k) })
+-- what a search for P says of Q, if they are the same
+module _ {n : ℕ} {P Q : ℕ → Type 0} {r : ℕ} (s : Search n P r) (to : (j : ℕ) → j < n → P j → Q j) (from : (j : ℕ) → j < n → Q j → P j) where
+  pub named : {A : Type 0} {f : ℕ → A} {Rest : A → Type 0} → r < n → Names n Q f Rest (f r)
+  named l = first (record { below = l; here = to r l (s.here l); before = λ j m q. s.before j m (from j (lt_of_lt_of_le m s.within) q) })
 
-  pub unnamed : {A : Type 0} {f : ℕ → A} {Rest : A → Type 0} {g : A} → PassesNowhere n p → Rest g → Names m Q f Rest g
-  unnamed nowhere rest = none (λ j l q. both_ways (from j l q) (nowhere j (omega arith))) rest
+  pub unnamed : {A : Type 0} {f : ℕ → A} {Rest : A → Type 0} {g : A} → n ≤ r → Rest g → Names n Q f Rest g
+  unnamed l rest = none (λ j m q. s.before j (lt_of_lt_of_le m l) (from j m q)) rest
+
+-- what the first place that passes p says of Q, if p is the test of Q, and what it says that no place passes
+module _ {n m : ℕ} (count : n ≡ m) {p : ℕ → Bool} {Q : ℕ → Type 0} (to : (j : ℕ) → j < m → p j ≡ true → Q j) (from : (j : ℕ) → j < m → Q j → p j ≡ true) where
+  pub named_first : {A : Type 0} {f : ℕ → A} {Rest : A → Type 0} {r : ℕ} → PassesFirst n p r → Names m Q f Rest (f r)
+  named_first (l, so, before) =
+      first (record { below = omega arith; here = to _ (omega arith) so; before = λ j k q. both_ways (from j (omega arith) q) (before j k) })
+
+  pub named_nowhere : {A : Type 0} {f : ℕ → A} {Rest : A → Type 0} {g : A} → PassesNowhere n p → Rest g → Names m Q f Rest g
+  named_nowhere nowhere rest = none (λ j l q. both_ways (from j l q) (nowhere j (omega arith))) rest
 
 module _ (h : List ℕ) {n : ℕ} (count : n ≡ entries h) where
   pub judged_bad : {b : ℕ} → PassesFirst n (bad h) b → Judged h (Refused b)
-  judged_bad = named count (λ j m p. p) (λ j m p. p)
+  judged_bad = named_first count (λ j m p. p) (λ j m p. p)
 
   module _ (good : PassesNowhere n (bad h)) (G : Grid) (closed : Closed (entries h) (rests_on h) G) where
     fair : {R : Finding → Type 0} {g : Finding} → R g → Names (entries h) (Bad h) Refused R g
-    fair = unnamed count (λ j m p. p) (λ j m p. p) good
+    fair = named_nowhere count (λ j m p. p) (λ j m p. p) good
 
     pub judged_circle : {c : ℕ} → PassesFirst n (λ i. G i i) c → Judged h (Circle c)
-    judged_circle found = fair (named count (λ j m g. closed.sound j j m m g) (λ j m p. closed.complete p) found)
+    judged_circle found = fair (named_first count (λ j m g. closed.sound j j m m g) (λ j m p. closed.complete p) found)
 
     module _ (open_chains : PassesNowhere n (λ i. G i i)) where
       acyclic : {R : Finding → Type 0} {g : Finding} → R g → Names (entries h) (λ i. Past h i i) Circle R g
-      acyclic = unnamed count (λ j m g. closed.sound j j m m g) (λ j m p. closed.complete p) open_chains
+      acyclic = named_nowhere count (λ j m g. closed.sound j j m m g) (λ j m p. closed.complete p) open_chains
 
       low_to : (i : ℕ) → i < entries h → low h G i ≡ true → LowRead h i
       unfolding low under
@@ -63,10 +72,10 @@ module _ (h : List ℕ) {n : ℕ} (count : n ≡ entries h) where
       low_from i l r = some_here (entries h) _ r.write (chain_to r.past) (and_intro (closed.complete r.past) r.lower)
 
       pub judged_low : {d : ℕ} → PassesFirst n (low h G) d → Judged h (Low d)
-      judged_low found = fair (acyclic (named count low_to low_from found))
+      judged_low found = fair (acyclic (named_first count low_to low_from found))
 
       pub judged_causal : PassesNowhere n (low h G) → Judged h Causal
-      judged_causal high = fair (acyclic (unnamed count low_to low_from high refl))
+      judged_causal high = fair (acyclic (named_nowhere count low_to low_from high refl))
 
 -- A WAY TO PASS: no entry is bad, every step goes back in the history, and no read is lower than a write in its past
 pub judged_if : {h : List ℕ} → ((i : ℕ) → i < entries h → Bad h i → ⊥) → ((a b : ℕ) → a < entries h → b < entries h → rests_on h a b ≡ true → b < a)
