@@ -3,7 +3,7 @@
 use Prim.Native.Nat.{ℕ, zero, suc, ◌<◌}
 use native.Mathlib.Omega.{arith}
 use mathlib.Core.Path.{◌≡◌, refl, sym, ◌∙◌, ap}
-use mathlib.Core.Bool.{Bool, true, false, ◌||◌, not}
+use mathlib.Core.Bool.{true, ◌||◌, not}
 use mathlib.Core.List.{List, [], ◌∷◌, ◌++◌}
 use lib.Dec.{ltb, lit<}
 use lib.ListN.{replicate, length-replicate}
@@ -18,8 +18,7 @@ use Rattle.chains.specs.Chain.{some, step, steps}
 use Rattle.chains.proofs.Closing.{chain_from, chain_to, chain_down}
 use Rattle.entries.specs.Entries.{entries, is_read, rank, vector, wrote, source, twin, earlier}
 use Rattle.entries.specs.Rests.{rests_on, Past, OnCircle, lower_than}
-use Rattle.auditor.specs.Verdict.{bad_write, bad_read, bad, Bad, so, not_so, first, none, Judged, Verdict}
-use Rattle.auditor.specs.declared.finding.Finding.{Finding}
+use Rattle.auditor.specs.Verdict.{bad_write, bad_read, bad, Bad, so, not_so, first, none, Verdict}
 use Rattle.auditor.specs.declared.finding.Finding.TheVariants.{TooMany, BadLength, Refused, Circle, Low, Causal}
 use Rattle.auditor.proofs.JudgeLaws.{judged_if}
 

@@ -5,8 +5,8 @@ ghost use Rattle.entries.specs.Ready.{Ready};
 ghost use Rattle.auditor.specs.Verdict.{Judged, Verdict};
 
 use crate::finding::Finding;
-use crate::search::{Fault, first_fault};
-use chains::table::TABLE_WORDS;
+use crate::search::{is_bad, is_low};
+use chains::table::{TABLE_WORDS, is_set};
 use entries::beside::{ENTRY_WORDS, MOST_ENTRIES};
 use entries::past::fill;
 
@@ -15,17 +15,14 @@ fn judge(h: &[u32], past: &mut [u64], n: usize) -> Finding
     requires { Ready h.now n past.old × (past.old ≡ replicate table_words 0) }
     ensures { Judged h.now result }
 {
-    let bad = first_fault(h, past, Fault::Bad, n);
-    if bad < n {
+    if let Some(bad) = (0..n).find(|&i| is_bad(h, i, n)) {
         return Finding::Refused(bad as u32);
     }
     fill(h, past, n);
-    let circle = first_fault(h, past, Fault::Circle, n);
-    if circle < n {
+    if let Some(circle) = (0..n).find(|&i| is_set(past, i, i)) {
         return Finding::Circle(circle as u32);
     }
-    let low = first_fault(h, past, Fault::Low, n);
-    if low < n {
+    if let Some(low) = (0..n).find(|&i| is_low(h, past, i, n)) {
         return Finding::Low(low as u32);
     }
     Finding::Causal

@@ -1,22 +1,25 @@
 -- `auditor::search::is_bad_read` meets its contract. Each test is one of the chain.
 -- Assumes nothing.
-use mathlib.Core.Path.{sym, ◌∙◌, ap}
-use mathlib.Core.Bool.{not}
-use Rattle.loops.proofs.BoolLaws.{and_next, and_stop}
-use Rattle.auditor.specs.Verdict.{bad_read}
-use Rattle.auditor.specs.Judging.{sought}
+use mathlib.Core.Path.{◌≡◌, refl, ◌∙◌, ap}
+use Rattle.std.proofs.Common.{rules, tests}
+use Rattle.entries.specs.Entries.{entries, source}
 use Rattle.entries.proofs.EntryLaws.{zeros_part}
+use Rattle.chains.specs.Chain.{some}
+use Rattle.chains.proofs.SomeLaws.{some_from_any}
+use Rattle.auditor.specs.Verdict.{bad_read}
 use Rattle.auditor.proofs.search.is_bad_read.Goals as goal
 
-pub returns-then-is_zero : goal.returns-then-is_zero
+pub returns-then-not-unwritten : goal.returns-then-not-unwritten
 unfolding bad_read
-returns-then-is_zero c =
-    let args = c.args in
-    sym (and_stop _ (ap not (sym (zeros_part args.h.now args.i) ∙ sym c.is_zero.ensures ∙ c.if-is_zero.true)))
+returns-then-not-unwritten c =
+    let test = source c.args.h.now c.args.i in
+    let zero = c.is_zero-unwritten.ensures ∙ zeros_part c.args.h.now c.args.i in
+    let found : c.any.result ≡ some (entries c.args.h.now) test =
+    some_from_any c.args.n test c.any.result c.any.ensures.ran refl (λ x b q k. search (rules, tests)) ∙ ap (λ n. some n test) c.requires.count in
+    search (rules, tests)
 
-pub returns : goal.returns
-unfolding bad_read sought
-returns c =
-    let args = c.args in
-    ap not c.has.ensures
-    ∙ sym (and_next _ (ap not (sym (zeros_part args.h.now args.i) ∙ sym c.is_zero.ensures ∙ c.if-is_zero.false)))
+pub returns-else-not-unwritten : goal.returns-else-not-unwritten
+unfolding bad_read
+returns-else-not-unwritten c =
+    let zero = c.is_zero-unwritten.ensures ∙ zeros_part c.args.h.now c.args.i in
+    search (rules, tests)

@@ -1,25 +1,17 @@
 -- `auditor::search::is_bad_write` meets its contract. Each test is one of the chain.
 -- Assumes nothing.
-use Prim.Native.Nat.{◌+◌, ◌*◌}
-use native.Mathlib.Omega.{arith}
-use mathlib.Core.Path.{sym, ◌∙◌}
-use borrow.Author.Tests.{eq-eqb, ne_eqb, le-leb, lt-leb}
-use Rattle.loops.proofs.BoolLaws.{or_next, or_stop}
+use mathlib.Core.Path.{◌≡◌, refl, ◌∙◌, ap}
+use Rattle.std.proofs.Common.{rules, tests}
+use Rattle.entries.specs.Entries.{entries, twin}
+use Rattle.chains.specs.Chain.{some}
+use Rattle.chains.proofs.SomeLaws.{some_from_any}
 use Rattle.auditor.specs.Verdict.{bad_write}
-use Rattle.auditor.specs.Judging.{sought}
 use Rattle.auditor.proofs.search.is_bad_write.Goals as goal
 
-pub overflow_cast-origin : goal.overflow_cast-origin
-overflow_cast-origin c = omega (arith, c.shared_slice_known-3-1.given (c.args.i * 11 + 6))
-
-pub returns-then-origin-ge-MOST_DEPOTS : goal.returns-then-origin-ge-MOST_DEPOTS
+pub returns-else-h-at-eq0 : goal.returns-else-h-at-eq0
 unfolding bad_write
-returns-then-origin-ge-MOST_DEPOTS c = sym (or_stop _ (le-leb _ _ c.if-origin-ge-MOST_DEPOTS.true))
-
-pub returns-then-h-at-eq0 : goal.returns-then-h-at-eq0
-unfolding bad_write
-returns-then-h-at-eq0 c = sym (or_next _ (lt-leb _ _ c.if-origin-ge-MOST_DEPOTS.false) ∙ or_stop _ (eq-eqb _ _ c.if-h-at-eq0.true))
-
-pub returns : goal.returns
-unfolding bad_write sought
-returns c = c.has.ensures ∙ sym (or_next _ (lt-leb _ _ c.if-origin-ge-MOST_DEPOTS.false) ∙ or_next _ (ne_eqb _ _ c.if-h-at-eq0.false))
+returns-else-h-at-eq0 c =
+    let test = twin c.args.h.now c.args.i in
+    let found : c.any.result ≡ some (entries c.args.h.now) test =
+    some_from_any c.args.n test c.any.result c.any.ensures.ran refl (λ x b q k. search (rules, tests)) ∙ ap (λ n. some n test) c.requires.count in
+    search (rules, tests)
