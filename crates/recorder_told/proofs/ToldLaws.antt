@@ -5,7 +5,9 @@ use native.Mathlib.Omega.{arith}
 use mathlib.Core.Path.{◌≡◌, refl, sym, ◌∙◌, ap, ap₂, subst}
 use mathlib.Core.Logic.{⊎_elim}
 use mathlib.Core.Bool.{Bool, true, false, true≢false, false≢true}
-use mathlib.Core.Option.{Option, none, some}
+use mathlib.Core.Option as maybe
+use mathlib.Core.Option.{none, some}
+use Rattle.std.specs.Prelude.{Option, Some, None}
 use mathlib.Core.List.{List, [], ◌∷◌}
 use lib.Dec.{eqb, leb, ltb}
 use lib.ListN.{length, take, replicate}
@@ -24,8 +26,6 @@ use Rattle.journal.specs.declared.record.Kind.{Kind}
 use Rattle.journal.specs.Record.{kind_of, Form, plain, counted, form_of, record_bytes, request_by}
 use Rattle.journal.specs.Recording.{recorded_number, recorded_size}
 use Rattle.journal.proofs.RecordLaws.{record_few}
-use Rattle.records.specs.declared.kinds.Named.{Named}
-use Rattle.records.specs.declared.kinds.Named.TheVariants.{Nothing, A}
 use Rattle.records.specs.declared.kinds.Shape.{Shape}
 use Rattle.records.specs.Kinds.{named_by, shape_by, own_of}
 use Rattle.recorder.specs.declared.answer.Recorded.{Recorded}
@@ -66,29 +66,29 @@ kind_own k n h = own_fits (form_of k) n h
 -- ---- what is asked
 
 -- a name that was told, known by its case
-named_none : (o : Option Kind) (ns : List ℕ) → named_by o ≡ Nothing → asks_by o ns ≡ none
+named_none : (o : maybe.Option Kind) (ns : List ℕ) → named_by o ≡ None → asks_by o ns ≡ none
 unfolding named_by asks_by
 named_none none ns e = refl
 named_none (some k) ns e = let z : ◌≡◌ {A = ℕ} 0 1 = cc in absurd (omega arith)
 
-named_some : (o : Option Kind) {k : Kind} (ns : List ℕ) → named_by o ≡ A k → asks_by o ns ≡ pick (fits (form_of k) (length ns)) (some (request_by k ns)) none
+named_some : (o : maybe.Option Kind) {k : Kind} (ns : List ℕ) → named_by o ≡ Some k → asks_by o ns ≡ pick (fits (form_of k) (length ns)) (some (request_by k ns)) none
 unfolding named_by asks_by
 named_some none ns e = let z : ◌≡◌ {A = ℕ} 0 1 = cc in absurd (omega arith)
 named_some (some m) {k} ns e = let z : m ≡ k = cc in ap (λ (x : Kind). pick (fits (form_of x) (length ns)) (some (request_by x ns)) none) z
 
-module _ (kind : ℕ) (ns l b o : List ℕ) {named : Named} (e : named ≡ named_by (kind_of kind)) where
-  pub no_kind : named ≡ Nothing → left 110 l b o ≡ made_by (asks kind ns) l b o
+module _ (kind : ℕ) (ns l b o : List ℕ) {named : Option Kind} (e : named ≡ named_by (kind_of kind)) where
+  pub no_kind : named ≡ None → left 110 l b o ≡ made_by (asks kind ns) l b o
   unfolding asks made_by
-  no_kind h = sym (ap (λ (x : Option Request). made_by x l b o) (named_none (kind_of kind) ns (sym e ∙ h)))
+  no_kind h = sym (ap (λ (x : maybe.Option Request). made_by x l b o) (named_none (kind_of kind) ns (sym e ∙ h)))
 
-  module _ {k : Kind} (h : named ≡ A k) where
+  module _ {k : Kind} (h : named ≡ Some k) where
     pub no_numbers : fits (form_of k) (length ns) ≡ false → left 110 l b o ≡ made_by (asks kind ns) l b o
     unfolding asks made_by
-    no_numbers w = sym (ap (λ (x : Option Request). made_by x l b o) (named_some (kind_of kind) ns (sym e ∙ h) ∙ pick_false _ _ w))
+    no_numbers w = sym (ap (λ (x : maybe.Option Request). made_by x l b o) (named_some (kind_of kind) ns (sym e ∙ h) ∙ pick_false _ _ w))
 
     pub the_request : fits (form_of k) (length ns) ≡ true → made (request_by k ns) l b o ≡ made_by (asks kind ns) l b o
     unfolding asks made_by
-    the_request w = sym (ap (λ (x : Option Request). made_by x l b o) (named_some (kind_of kind) ns (sym e ∙ h) ∙ pick_true _ _ w))
+    the_request w = sym (ap (λ (x : maybe.Option Request). made_by x l b o) (named_some (kind_of kind) ns (sym e ∙ h) ∙ pick_true _ _ w))
 
 -- ---- the words of an answer
 

@@ -13,7 +13,7 @@ use book::words::write_words;
 use journal::record::Kind;
 use recorder::recorded;
 use records::asking::{beside_by, request_by};
-use records::kinds::{Named, kind_of, shape_of};
+use records::kinds::{kind_of, shape_of};
 use request::reply::{Outcome, Reply};
 use room::{NO_ROOM, fill};
 
@@ -122,7 +122,7 @@ pub fn tell_recorded(
     if out.len() < RECORDED_WORDS {
         return NO_ROOM;
     }
-    let Named::A(known) = kind_of(kind) else {
+    let Some(known) = kind_of(kind) else {
         return BAD_RECORD;
     };
     if !has_numbers(known, numbers.len()) {

@@ -3,17 +3,16 @@
 use Prim.Native.Nat.{ℕ}
 use mathlib.Core.Path.{◌≡◌, refl, sym, ◌∙◌, ap}
 use mathlib.Core.Logic.{⊎_elim}
-use mathlib.Core.Option.{Option, none, some}
+use mathlib.Core.Option.{none}
+use Rattle.std.specs.Prelude.{Some}
 use borrow.Author.Tests.{ne_eqb}
 use Rattle.loops.proofs.BoolLaws.{pick_false}
 use Rattle.journal.specs.declared.record.Kind.{Kind}
 use Rattle.journal.specs.Record.{byte_of, kind_of}
 use Rattle.journal.proofs.ByKind.{kind_back}
-use Rattle.records.specs.declared.kinds.Named.{Named}
-use Rattle.records.specs.declared.kinds.Named.TheVariants.{Nothing, A}
 use Rattle.records.specs.Kinds.{named_by}
 
-pub names_kind : (k : Kind) {n : ℕ} → n ≡ byte_of k → A k ≡ named_by (kind_of n)
+pub names_kind : (k : Kind) {n : ℕ} → n ≡ byte_of k → Some k ≡ named_by (kind_of n)
 unfolding named_by
 names_kind k e = sym (ap named_by (ap kind_of e ∙ kind_back k))
 

@@ -1,17 +1,15 @@
 -- Kinds and forms as the code has them.
 -- Assumes nothing.
-use Rattle.std.specs.Prelude.{ℕ, true, false, List, drop}
-use Rattle.std.proofs.Math.Option.{Option, none, some}
+use Rattle.std.specs.Prelude.{ℕ, true, false, List, drop, Option, Some, None}
+use Rattle.std.proofs.Math.Option as maybe
 use Rattle.journal.specs.declared.record.Kind.{Kind}
 use Rattle.journal.specs.Record.{Form, plain, counted, form_of}
-use Rattle.records.specs.declared.kinds.Named.{Named}
-use Rattle.records.specs.declared.kinds.Named.TheVariants.{Nothing, A}
 use Rattle.records.specs.declared.kinds.Shape.{Shape}
 
 -- a kind, or none
-unfoldable pub named_by : Option Kind → Named
-named_by none = Nothing
-named_by (some k) = A k
+unfoldable pub named_by : maybe.Option Kind → Option Kind
+named_by maybe.none = None
+named_by (maybe.some k) = Some k
 
 -- a form: how many numbers, and whether a byte counts more
 unfoldable pub shape_by : Form → Shape

@@ -9,6 +9,7 @@ use journal::record::Kind;
 use request::ask::{Event, Request, request_of};
 
 // The request of a kind with its numbers.
+#[tactic(auto, unfolding(request::specs::Requests::request_in, journal::specs::Record::form_of, journal::specs::Record::request_by, crate::specs::Kinds::shape_by, crate::specs::Kinds::own_of, crate::specs::Kinds::beside_by))]
 pub fn request_by(kind: Kind, numbers: &[u32]) -> Request
     requires { own_of kind ≤ length numbers.now }
     ensures { asked result (beside_by kind numbers.now) ≡ request_by kind numbers.now }

@@ -5,13 +5,6 @@ ghost use Rattle.records.specs.Kinds.{named_by, shape_by};
 
 use journal::record::Kind;
 
-// What a number names: a kind, or none.
-#[derive(Clone, Copy)]
-pub enum Named {
-    Nothing,
-    A(Kind),
-}
-
 // What stands behind a kind's byte: so many numbers; and, if a byte before them counts more, as many more.
 #[derive(Clone, Copy)]
 pub struct Shape {
@@ -19,20 +12,20 @@ pub struct Shape {
     pub counted: bool,
 }
 
-// The kind that a number names.
-pub fn kind_of(n: u32) -> Named
+// The kind that a number names, if it names one.
+pub fn kind_of(n: u32) -> Option<Kind>
     ensures { result ≡ named_by (kind_of n) }
 {
     match n {
-        1 => Named::A(Kind::Setup),
-        2 => Named::A(Kind::Read),
-        3 => Named::A(Kind::Write),
-        4 => Named::A(Kind::Tick),
-        5 => Named::A(Kind::Take),
-        6 => Named::A(Kind::Refresh),
-        7 => Named::A(Kind::Move),
-        8 => Named::A(Kind::Page),
-        _ => Named::Nothing,
+        1 => Some(Kind::Setup),
+        2 => Some(Kind::Read),
+        3 => Some(Kind::Write),
+        4 => Some(Kind::Tick),
+        5 => Some(Kind::Take),
+        6 => Some(Kind::Refresh),
+        7 => Some(Kind::Move),
+        8 => Some(Kind::Page),
+        _ => None,
     }
 }
 
@@ -60,6 +53,7 @@ fn of_shape(own: usize, counted: bool) -> Shape
 }
 
 // What stands behind a kind's byte.
+#[tactic(auto, unfolding(journal::specs::Record::form_of, crate::specs::Kinds::shape_by))]
 pub fn shape_of(kind: Kind) -> Shape
     ensures { result ≡ shape_by (form_of kind) }
 {

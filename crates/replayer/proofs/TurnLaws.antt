@@ -4,7 +4,9 @@ use Prim.Native.Nat.{ℕ, ◌+◌, ◌*◌, ◌≤◌}
 use native.Mathlib.Omega.{arith}
 use mathlib.Core.Path.{◌≡◌, refl, sym, ◌∙◌, ap, ap₂, subst}
 use mathlib.Core.Bool.{Bool, true, false, true≢false, false≢true}
-use mathlib.Core.Option.{Option, none, some}
+use mathlib.Core.Option as maybe
+use mathlib.Core.Option.{none, some}
+use Rattle.std.specs.Prelude.{Option, Some, None}
 use mathlib.Core.List.{List, ◌++◌}
 use lib.Dec.{lit≤}
 use lib.ListN.{length, get_or, take, drop}
@@ -20,32 +22,30 @@ use Rattle.request.specs.Replies.{on_paper}
 use Rattle.journal.specs.declared.record.Kind.{Kind}
 use Rattle.journal.specs.declared.record.Kind.TheVariants.{Setup, Read, Write, Tick, Take, Refresh, Move, Page}
 use Rattle.journal.specs.Record.{kind_of, Form, plain, counted, form_of, head_by, head_size, numbers_by, numbers_in, size, request_by, request_in}
-use Rattle.records.specs.declared.kinds.Named.{Named}
-use Rattle.records.specs.declared.kinds.Named.TheVariants.{Nothing, A}
 use Rattle.records.specs.declared.kinds.Shape.{Shape}
 use Rattle.records.specs.Kinds.{named_by, shape_by, own_of}
 
 -- ---- what a byte names
 
-named_back : Named → Option Kind
-named_back Nothing = none
-named_back (A k) = some k
+named_back : Option Kind → maybe.Option Kind
+named_back None = none
+named_back (Some k) = some k
 
-named_is : (o : Option Kind) → named_back (named_by o) ≡ o
+named_is : (o : maybe.Option Kind) → named_back (named_by o) ≡ o
 unfolding named_by named_back
 named_is none = refl
 named_is (some k) = refl
 
 -- a name that was told, known by its case
-module _ (b : ℕ) {x : ℕ} {n : Named} (e : x ≡ b) (h : n ≡ named_by (kind_of x)) where
+module _ (b : ℕ) {x : ℕ} {n : Option Kind} (e : x ≡ b) (h : n ≡ named_by (kind_of x)) where
   told_back : named_back n ≡ kind_of b
   told_back = ap named_back h ∙ named_is (kind_of x) ∙ ap kind_of e
 
-  pub names_nothing : n ≡ Nothing → kind_of b ≡ none
+  pub names_nothing : n ≡ None → kind_of b ≡ none
   unfolding named_back
   names_nothing q = sym told_back ∙ ap named_back q
 
-  pub names_kind : {k : Kind} → n ≡ A k → kind_of b ≡ some k
+  pub names_kind : {k : Kind} → n ≡ Some k → kind_of b ≡ some k
   unfolding named_back
   names_kind q = sym told_back ∙ ap named_back q
 

@@ -11,7 +11,7 @@ use calls::perform::perform;
 use journal::record::Kind;
 use numbers::read_words;
 use records::asking::{beside_by, request_by};
-use records::kinds::{Named, kind_of, shape_of};
+use records::kinds::{kind_of, shape_of};
 use request::reply::number_in;
 use wire::wide_byte;
 
@@ -88,8 +88,7 @@ pub fn next_record(book: &mut [u32], bytes: &[u8], numbers: &mut [u32]) -> Next
     requires { (0 < length bytes.now) × (most_numbers ≤ length numbers.old) }
     ensures { Turn book.old bytes.now result book.new }
 {
-    let named = kind_of(word_of_byte(bytes[0]));
-    let Named::A(kind) = named else {
+    let Some(kind) = kind_of(word_of_byte(bytes[0])) else {
         return Next {
             end: BAD_RECORD,
             size: 0,
