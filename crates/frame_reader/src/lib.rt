@@ -16,7 +16,7 @@ use book::words::write_words;
 use frame::{FRONT, FrameRefusal, OFFSET, Route, size_of};
 use frame_form::{is_formed, message_at, word_of_byte};
 use paper::answer::Refusal;
-use register::check::{LinkCheck, check_link};
+use register::check::check_link;
 use wire::{half_at, wide_byte};
 
 // The words of its messages stand in the buffer.
@@ -107,7 +107,7 @@ pub fn read_frame(
     ensures { WasRead book.now depot shelf from expected frame.now out.old result out.new }
 {
     match check_link(book, depot, shelf, from) {
-        LinkCheck::Bad(r) => Err(FrameRefusal::Link(r)),
-        LinkCheck::Good(d, s, o) => read_at(book, d, s, o, expected, frame, out),
+        Err(r) => FrameAnswer::Refused(FrameRefusal::Link(r)),
+        Ok((d, s, o)) => read_at(book, d, s, o, expected, frame, out),
     }
 }

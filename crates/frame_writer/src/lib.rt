@@ -14,7 +14,7 @@ use frame::{FrameRefusal, Route};
 use frame_bytes::{put_frame, size_of_frame};
 use messages::{head_fits, waiting_fit};
 use paper::answer::Refusal;
-use register::check::{LinkCheck, check_link};
+use register::check::check_link;
 
 // Whether the head of a link and all that waits on it are fit.
 fn waiting_fits(book: &[u32], n: Counts, s: Shelf, from: Depot, q: Link) -> bool
@@ -100,7 +100,7 @@ pub fn write_frame(
     ensures { Written book.now depot shelf from count serial out.old result out.new }
 {
     match check_link(book, depot, shelf, from) {
-        LinkCheck::Bad(r) => Err(FrameRefusal::Link(r)),
-        LinkCheck::Good(d, s, o) => write_at(book, d, s, o, count, serial, out),
+        Err(r) => FrameAnswer::Refused(FrameRefusal::Link(r)),
+        Ok((d, s, o)) => write_at(book, d, s, o, count, serial, out),
     }
 }

@@ -8,7 +8,7 @@ ghost use Rattle.book.specs.Layout.{counts_of};
 ghost use Rattle.named.specs.Named.{is_list, all_below, base_fit};
 ghost use Rattle.register.specs.Promises.{Listing};
 
-use book::numbers::{Crew, CrewCheck, Numbered};
+use book::numbers::Crew;
 use book::parts::{counts_of, wide};
 use moment::{gather, merge_all, settle_all, tell_all};
 use named_call::{base_fits, list_parts_fit};
@@ -89,7 +89,7 @@ pub fn list(book: &mut [u32], crew: u32, bearings: &[u32]) -> ListAnswer
         return refused(Refusal::BadBook);
     }
     let n = counts_of(book);
-    let CrewCheck::Good(c) = Crew::checked(crew, n.crews) else {
+    let Some(c) = Crew::checked(crew, n.crews) else {
         return refused(Refusal::BadCrew);
     };
     if !is_list(bearings) {

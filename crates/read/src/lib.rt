@@ -19,7 +19,7 @@ use named_call::read_parts_fit;
 use order::record::{DIAMETER, RECORD_WORDS, VALUE, VECTOR, WIDTH};
 use order::vector::{is_zero, merge};
 use paper::answer::{Finding, Payload, ReadAnswer, Refusal};
-use register::check::{AskCheck, check_asked};
+use register::check::check_asked;
 use register::home::{cut_vector, home_depot, settle_home, shelf_for};
 
 // What a read tells of a stored record.
@@ -83,7 +83,7 @@ pub fn read(book: &mut [u32], crew: u32, bearing: u32) -> ReadAnswer
     ensures { Read book.old crew bearing result book.new }
 {
     match check_asked(book, crew, bearing) {
-        AskCheck::Bad(r) => refused(r),
-        AskCheck::Good(c, k) => read_at(book, c, k),
+        Err(r) => refused(r),
+        Ok((c, k)) => read_at(book, c, k),
     }
 }

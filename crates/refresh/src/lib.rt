@@ -11,7 +11,7 @@ use book::parts::counts_of;
 use lowest::lowest_seen;
 use named_call::refresh_parts_fit;
 use paper::answer::{Answer, Refusal};
-use register::check::{PlaceCheck, check_place};
+use register::check::check_place;
 use shelf::show::settle;
 
 fn refresh_at(book: &mut [u32], d: Depot, s: Shelf) -> Answer
@@ -32,7 +32,7 @@ pub fn refresh(book: &mut [u32], depot: u32, shelf: u32) -> Answer
     ensures { Refresh book.old depot shelf result book.new }
 {
     match check_place(book, depot, shelf) {
-        PlaceCheck::Bad(r) => Answer::Refused(r),
-        PlaceCheck::Good(d, s) => refresh_at(book, d, s),
+        Err(r) => Answer::Refused(r),
+        Ok((d, s)) => refresh_at(book, d, s),
     }
 }

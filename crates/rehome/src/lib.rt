@@ -10,7 +10,7 @@ ghost use Rattle.register.specs.Table.{arrived};
 ghost use Rattle.register.specs.Promises.{Move};
 
 use book::layout::home_at;
-use book::numbers::{Crew, CrewCheck, Depot, DepotCheck, Numbered};
+use book::numbers::{Crew, Depot};
 use book::parts::{Counts, counts_of, home_of, wide};
 use lowest::lowest_seen;
 use named_call::{base_fits, move_parts_fit};
@@ -71,10 +71,10 @@ pub fn move_crew(book: &mut [u32], crew: u32, depot: u32) -> Answer
         return Answer::Refused(Refusal::BadBook);
     }
     let n = counts_of(book);
-    let CrewCheck::Good(c) = Crew::checked(crew, n.crews) else {
+    let Some(c) = Crew::checked(crew, n.crews) else {
         return Answer::Refused(Refusal::BadCrew);
     };
-    let DepotCheck::Good(d) = Depot::checked(depot, n.depots) else {
+    let Some(d) = Depot::checked(depot, n.depots) else {
         return Answer::Refused(Refusal::BadDepot);
     };
     move_at(book, c, d)

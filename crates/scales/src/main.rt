@@ -1,13 +1,13 @@
 // Weighs some cards: writes the two words of each and the bits of its grams, or that it is no card. What is printed is kept in the file `stdout`.
 #![tactic(auto)]
 
-use card::{GramsAnswer, grams};
+use card::grams;
 use std::io;
 
 fn show(rt: &impl Print, diameter: u32, width: u32) -> io::Result<()> {
     match grams(diameter, width) {
-        GramsAnswer::Of(bits) => println!(rt; "{diameter:08x} {width:08x} {bits:016x}"),
-        GramsAnswer::BadCard => println!(rt; "{diameter:08x} {width:08x} bad card"),
+        Some(bits) => println!(rt; "{diameter:08x} {width:08x} {bits:016x}"),
+        None => println!(rt; "{diameter:08x} {width:08x} bad card"),
     }
 }
 

@@ -11,7 +11,7 @@ use book::numbers::{Depot, Numbered, Shelf};
 use book::parts::{counts_of, held_of, taken_of};
 use named_link::take_parts_fit;
 use paper::answer::{Answer, Refusal};
-use register::check::{LinkCheck, check_link};
+use register::check::check_link;
 use taking::take_one;
 
 fn take_at(book: &mut [u32], d: Depot, s: Shelf, from: Depot) -> Answer
@@ -39,7 +39,7 @@ pub fn take(book: &mut [u32], depot: u32, shelf: u32, from: u32) -> Answer
     ensures { Take book.old depot shelf from result book.new }
 {
     match check_link(book, depot, shelf, from) {
-        LinkCheck::Bad(r) => Answer::Refused(r),
-        LinkCheck::Good(d, s, o) => take_at(book, d, s, o),
+        Err(r) => Answer::Refused(r),
+        Ok((d, s, o)) => take_at(book, d, s, o),
     }
 }

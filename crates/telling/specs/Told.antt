@@ -1,8 +1,6 @@
 -- What a reply, and the grams, leave in a caller's buffer.
 -- Assumes nothing.
-use Rattle.std.specs.Prelude.{ℕ, ◌/◌, ◌%◌, List, [], ◌∷◌}
-use Rattle.card.specs.declared.GramsAnswer.{GramsAnswer}
-use Rattle.card.specs.declared.GramsAnswer.TheVariants.{Of, BadCard}
+use Rattle.std.specs.Prelude.{ℕ, ◌/◌, ◌%◌, List, [], ◌∷◌, Option, Some, None}
 use Rattle.paper.specs.Calls.{Answer, refused, done, reads, read_value, read_unwritten, current, superseded, listed}
 use Rattle.paper.specs.Answers.{padded, page_words}
 
@@ -28,6 +26,6 @@ words_of (superseded stamp) = stamp ∷ 0 ∷ []
 words_of (listed ts) = page_words 8 ts
 
 -- the grams leave their 64 bits as two words, the low one first; no card leaves nothing
-unfoldable pub grams_out : GramsAnswer → List ℕ
-grams_out (Of bits) = bits % 4294967296 ∷ bits / 4294967296 ∷ []
-grams_out BadCard = []
+unfoldable pub grams_out : Option ℕ → List ℕ
+grams_out (Some bits) = bits % 4294967296 ∷ bits / 4294967296 ∷ []
+grams_out None = []

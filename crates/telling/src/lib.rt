@@ -10,7 +10,7 @@ ghost use Rattle.card.specs.Card.{grams_answer, grams_number};
 ghost use Rattle.room.specs.Room.{no_room, in_room, filled};
 ghost use Rattle.telling.specs.Told.{read_words, write_words, grams_words, words_of, grams_out};
 
-use card::{GramsAnswer, grams};
+use card::grams;
 use paper::answer::{Finding, Payload, ReadAnswer, WriteAnswer};
 use paper::number::number_of;
 use read::read;
@@ -121,7 +121,7 @@ pub fn tell_grams(diameter: u32, width: u32, out: &mut [u32]) -> u32
     if out.len() < GRAMS_WORDS {
         return NO_ROOM;
     }
-    let GramsAnswer::Of(bits) = grams(diameter, width) else {
+    let Some(bits) = grams(diameter, width) else {
         return BAD_CARD;
     };
     fill(out, &[low_word(bits), high_word(bits)]);

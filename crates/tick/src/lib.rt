@@ -12,7 +12,7 @@ use book::parts::{clock_of, counts_of};
 use links::send::{is_roomy, send};
 use named_link::tick_parts_fit;
 use paper::answer::{Answer, Refusal};
-use register::check::{PlaceCheck, check_place};
+use register::check::check_place;
 
 fn tick_at(book: &mut [u32], d: Depot, s: Shelf) -> Answer
     requires { (base_fit book.old ≡ true) × (d.0 < (counts_of book.old).depots) × (s.0 < (counts_of book.old).shelves) }
@@ -41,7 +41,7 @@ pub fn tick(book: &mut [u32], depot: u32, shelf: u32) -> Answer
     ensures { Tick book.old depot shelf result book.new }
 {
     match check_place(book, depot, shelf) {
-        PlaceCheck::Bad(r) => Answer::Refused(r),
-        PlaceCheck::Good(d, s) => tick_at(book, d, s),
+        Err(r) => Answer::Refused(r),
+        Ok((d, s)) => tick_at(book, d, s),
     }
 }

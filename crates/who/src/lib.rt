@@ -9,7 +9,7 @@ ghost use Rattle.who.specs.Bits.{mask_of};
 ghost use Rattle.who.specs.Who.{has_it, who_parts, WhoHas};
 
 use book::layout::stored_at;
-use book::numbers::{Bearing, BearingCheck, Depot, DepotCheck, Numbered};
+use book::numbers::{Bearing, Depot};
 use book::parts::{Counts, counts_of};
 use named_call::base_fits;
 use order::record::{RECORD_WORDS, is_above};
@@ -85,10 +85,10 @@ pub fn who_has(book: &[u32], depot: u32, bearing: u32) -> WhoAnswer
         return WhoAnswer::Refused(Refusal::BadBook);
     }
     let n = counts_of(book);
-    let DepotCheck::Good(d) = Depot::checked(depot, n.depots) else {
+    let Some(d) = Depot::checked(depot, n.depots) else {
         return WhoAnswer::Refused(Refusal::BadDepot);
     };
-    let BearingCheck::Good(k) = Bearing::checked(bearing, n.bearings) else {
+    let Some(k) = Bearing::checked(bearing, n.bearings) else {
         return WhoAnswer::Refused(Refusal::BadKey);
     };
     if !stores_fit(book, n, k) {

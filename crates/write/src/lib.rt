@@ -9,12 +9,12 @@ ghost use Rattle.register.specs.Promises.{Write};
 use book::layout::{END, crew_at};
 use book::numbers::{Bearing, Crew, Numbered};
 use book::parts::{clock_of, counts_of};
-use card::{CardCheck, card_of};
+use card::card_of;
 use links::send::is_roomy;
 use making::write_version;
 use named_call::write_parts_fit;
 use paper::answer::{LAST_DAY, Payload, Refusal, WriteAnswer};
-use register::check::{AskCheck, check_asked};
+use register::check::check_asked;
 use register::home::{home_depot, shelf_for};
 
 fn write_at(book: &mut [u32], c: Crew, k: Bearing, payload: Payload) -> WriteAnswer
@@ -31,7 +31,7 @@ fn write_at(book: &mut [u32], c: Crew, k: Bearing, payload: Payload) -> WriteAns
     if LAST_DAY < payload.value {
         return WriteAnswer::Refused(Refusal::BadDate);
     }
-    let CardCheck::Good(card) = card_of(payload.diameter, payload.width) else {
+    let Some(card) = card_of(payload.diameter, payload.width) else {
         return WriteAnswer::Refused(Refusal::BadCard);
     };
     let clock = clock_of(book, d, s);
@@ -52,7 +52,7 @@ pub fn write(book: &mut [u32], crew: u32, bearing: u32, payload: Payload) -> Wri
     ensures { Write book.old crew bearing payload result book.new }
 {
     match check_asked(book, crew, bearing) {
-        AskCheck::Bad(r) => WriteAnswer::Refused(r),
-        AskCheck::Good(c, k) => write_at(book, c, k, payload),
+        Err(r) => WriteAnswer::Refused(r),
+        Ok((c, k)) => write_at(book, c, k, payload),
     }
 }

@@ -5,7 +5,7 @@ use mathlib.Core.Path.{◌≡◌, ◌∙◌, sym, ap, subst}
 use mathlib.Core.Bool.{true}
 use Rattle.loops.proofs.BoolLaws.{test_passed, test_failed}
 use Rattle.book.specs.declared.parts.Counts.{Counts}
-use Rattle.book.specs.declared.numbers.Crew.{Crew}
+use Rattle.book.specs.Numbers.{Crew}
 use Rattle.book.specs.Layout.{counts_of}
 use Rattle.named.specs.Named.{is_list, all_below, base_fit}
 use Rattle.named.proofs.NamedLaws.{base_open}
@@ -13,7 +13,7 @@ use Rattle.paper.specs.declared.answer.Refusal.TheVariants.{BadBook, BadKey, Bad
 use Rattle.paper.specs.Answers.{number_of}
 use Rattle.register.specs.Promises.{Listing}
 use Rattle.register.proofs.CallLaws.{after_refused}
-use Rattle.register.proofs.KindLaws.{good_crew, bad_crew}
+use Rattle.register.proofs.KindLaws.{good_number, bad_number}
 use Rattle.register.proofs.ListTable.{list_base, list_crew, list_size, list_key}
 use Rattle.page.proofs.PageLaws.{list_refused}
 use Rattle.page.proofs.list.Goals as goal
@@ -41,8 +41,8 @@ list_sized c = test_passed c.is_list.ensures c.if-not-is_list.false-raw
 crew_under : (c : Else-not-is_list) → c.args.crew < (counts_of
     c.args.book.now).crews
 crew_under c = subst (λ (m : Counts). c.args.crew < m.crews)
-    c.counts_of-n.ensures (good_crew _ c.checked.ensures
-    c.in-Good.is).0
+    c.counts_of-n.ensures (good_number _ c.checked.ensures
+    c.in-Some.is).0
 
 bearings_said : (c : After-all_below) → c.all_below.result ≡ all_below (counts_of c.args.book.now).bearings
     c.args.bearings.now
@@ -63,7 +63,7 @@ unfolding number_of
 returns-in_default c =
     let args = c.args in
     let over = subst (λ (m : Counts). m.crews ≤ args.crew) c.counts_of-n.ensures
-    (bad_crew c.checked.ensures c.in_default.is) in
+    (bad_number _ c.checked.ensures c.in_default.is) in
     let e = list_crew args.book.now args.crew args.bearings.now (base_book c.before.before.before.before.before) over in
     let told = list_refused BadCrew _ c.refused-in_default.ensures e in
     record { answer = told.0; holds = told.1; book = after_refused BadCrew _ _ e }
@@ -73,7 +73,7 @@ unfolding number_of
 returns-then-not-is_list c =
     let args = c.args in
     let under = subst (λ (m : Counts). args.crew < m.crews) c.counts_of-n.ensures
-    (good_crew _ c.checked.ensures c.in-Good.is).0 in
+    (good_number _ c.checked.ensures c.in-Some.is).0 in
     let e = list_size args.book.now args.crew args.bearings.now (base_book c.before.before.before.before.before.before.before) under
     (test_failed c.is_list.ensures c.if-not-is_list.true-raw) in
     let told = list_refused BadList _ c.refused-then-not-is_list.ensures e in
@@ -91,7 +91,7 @@ returns-then-not-all_below c =
 pub list_at-requires : goal.list_at-requires
 list_at-requires c =
     let book = c.args.book.now in
-    let crew = good_crew _ c.checked.ensures c.in-Good.is in (
+    let crew = good_number _ c.checked.ensures c.in-Some.is in (
       base_book c.before.before.before.before.before.before.before.before.before,
       subst (λ (x : Crew). x.0 < (counts_of book).crews) crew.1
           (crew_under c.before.before.before.before),
@@ -104,5 +104,5 @@ returns c =
     let call = c.list_at in
     let args = c.args in
     subst (λ (x : Crew). Listing args.book.now x.0 args.bearings.now call.result call.new.book)
-    (sym (good_crew _ c.checked.ensures
-    c.in-Good.is).1) call.ensures
+    (sym (good_number _ c.checked.ensures
+    c.in-Some.is).1) call.ensures

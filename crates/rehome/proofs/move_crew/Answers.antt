@@ -5,8 +5,7 @@ use mathlib.Core.Path.{◌≡◌, sym, subst, subst₂}
 use mathlib.Core.Bool.{true}
 use Rattle.loops.proofs.BoolLaws.{test_passed, test_failed}
 use Rattle.book.specs.declared.parts.Counts.{Counts}
-use Rattle.book.specs.declared.numbers.Crew.{Crew}
-use Rattle.book.specs.declared.numbers.Depot.{Depot}
+use Rattle.book.specs.Numbers.{Crew, Depot}
 use Rattle.book.specs.Layout.{counts_of}
 use Rattle.named.specs.Named.{base_fit}
 use Rattle.named.proofs.NamedLaws.{base_open}
@@ -14,7 +13,7 @@ use Rattle.paper.specs.declared.answer.Refusal.TheVariants.{BadBook, BadDepot, B
 use Rattle.paper.specs.Answers.{number_of, paper}
 use Rattle.register.specs.Promises.{Move}
 use Rattle.register.proofs.CallLaws.{by_refusal, after_refused}
-use Rattle.register.proofs.KindLaws.{good_crew, bad_crew, good_depot, bad_depot}
+use Rattle.register.proofs.KindLaws.{good_number, bad_number}
 use Rattle.register.proofs.MoveTable.{move_base, move_crew, move_depot}
 use Rattle.rehome.proofs.move_crew.Goals as goal
 use Rattle.rehome.proofs.move_crew.Lts as lts
@@ -42,7 +41,7 @@ pub returns-in_default : goal.returns-in_default
 unfolding number_of paper
 returns-in_default c =
     let args = c.args in
-    let over = subst (λ (m : Counts). m.crews ≤ args.crew) c.counts_of-n.ensures (bad_crew c.checked.ensures c.in_default.is) in
+    let over = subst (λ (m : Counts). m.crews ≤ args.crew) c.counts_of-n.ensures (bad_number _ c.checked.ensures c.in_default.is) in
     let e = move_crew args.book.now args.crew args.depot (base_book c.before.before.before) over in
     record { answer = by_refusal BadCrew _ e; book = after_refused BadCrew _ _ e }
 
@@ -51,9 +50,9 @@ unfolding number_of paper
 returns-in_default-checked c =
     let args = c.args in
     let n = c.counts_of-n.ensures in
-    let under = subst (λ (m : Counts). args.crew < m.crews) n (good_crew _ c.checked.ensures
-    c.in-Good.is).0 in
-    let over = subst (λ (m : Counts). m.depots ≤ args.depot) n (bad_depot c.checked-2.ensures c.in_default-checked.is) in
+    let under = subst (λ (m : Counts). args.crew < m.crews) n (good_number _ c.checked.ensures
+    c.in-Some.is).0 in
+    let over = subst (λ (m : Counts). m.depots ≤ args.depot) n (bad_number _ c.checked-2.ensures c.in_default-checked.is) in
     let e = move_depot args.book.now args.crew args.depot (base_book c.before.before.before.before.before) under over in
     record { answer = by_refusal BadDepot _ e; book = after_refused BadDepot _ _ e }
 
@@ -62,8 +61,8 @@ move_at-requires c =
     let args = c.args in
     let book = args.book.now in
     let n = c.counts_of-n.ensures in
-    let crew = good_crew _ c.checked.ensures c.in-Good.is in
-    let depot = good_depot _ c.checked-2.ensures c.in-Good-checked.is in (
+    let crew = good_number _ c.checked.ensures c.in-Some.is in
+    let depot = good_number _ c.checked-2.ensures c.in-Some-checked.is in (
       base_book c.before.before.before.before.before.before,
       subst (λ (x : Crew). x.0 < (counts_of book).crews) crew.1 (subst (λ (m : Counts). args.crew < m.crews) n crew.0),
       subst (λ (x : Depot). x.0 < (counts_of book).depots) depot.1 (subst (λ (m : Counts). args.depot < m.depots) n depot.0),
@@ -73,7 +72,7 @@ pub returns : goal.returns
 returns c =
     let call = c.move_at in
     let book = c.args.book.now in
-    let crew = good_crew _ c.checked.ensures
-    c.in-Good.is in
-    let depot = good_depot _ c.checked-2.ensures c.in-Good-checked.is in
+    let crew = good_number _ c.checked.ensures
+    c.in-Some.is in
+    let depot = good_number _ c.checked-2.ensures c.in-Some-checked.is in
     subst₂ (λ (x : Crew) (y : Depot). Move book x.0 y.0 call.result call.new.book) (sym crew.1) (sym depot.1) call.ensures

@@ -3,7 +3,7 @@
 use Prim.Native.Nat.{ℕ}
 use mathlib.Core.Path.{sym, ◌∙◌, ap, ap₂}
 use mathlib.Core.List.{[], ◌∷◌}
-use Rattle.card.specs.declared.GramsAnswer.{GramsAnswer}
+use Rattle.std.specs.Prelude.{Option}
 use Rattle.card.specs.Card.{grams_number}
 use Rattle.room.specs.Room.{filled}
 use Rattle.room.proofs.RoomLaws.{with_room, no_room_law, filled_none}
@@ -25,17 +25,17 @@ returns-in_default c =
     let out = c.args.out.now in
     record {
       value = ap grams_number none ∙ with_room _ _ _ _ wide;
-      out_after = filled_none _ ∙ ap (λ (a : GramsAnswer). filled (grams_out a) out) none ∙ with_room _ _ _ _ wide;
+      out_after = filled_none _ ∙ ap (λ (a : Option ℕ). filled (grams_out a) out) none ∙ with_room _ _ _ _ wide;
     }
 
 pub returns : goal.returns
 unfolding grams_number grams_out
 returns c =
     let wide = c.if-out-lt-GRAMS_WORDS.false in
-    let some = sym c.in-Of.is ∙ c.grams.ensures in
+    let some = sym c.in-Some.is ∙ c.grams.ensures in
     let out = c.args.out.now in
     let words = ap₂ (λ (a b : ℕ). filled (a ∷ b ∷ []) out) c.low_word.ensures c.high_word.ensures in
     record {
       value = ap grams_number some ∙ with_room _ _ _ _ wide;
-      out_after = c.fill.ensures ∙ words ∙ ap (λ (a : GramsAnswer). filled (grams_out a) out) some ∙ with_room _ _ _ _ wide;
+      out_after = c.fill.ensures ∙ words ∙ ap (λ (a : Option ℕ). filled (grams_out a) out) some ∙ with_room _ _ _ _ wide;
     }

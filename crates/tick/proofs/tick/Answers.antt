@@ -3,8 +3,7 @@
 use Prim.Native.Nat.{◌<◌}
 use mathlib.Core.Path.{◌∙◌, sym, subst, subst₂}
 use Rattle.book.specs.Layout.{counts_of}
-use Rattle.book.specs.declared.numbers.Depot.{Depot}
-use Rattle.book.specs.declared.numbers.Shelf.{Shelf}
+use Rattle.book.specs.Numbers.{Depot, Shelf}
 use Rattle.paper.specs.Answers.{paper}
 use Rattle.register.specs.Promises.{Tick}
 use Rattle.register.proofs.CallLaws.{bad_place, good_place, not_done, by_refusal, after_refused}
@@ -16,23 +15,23 @@ pub tick_at-requires : goal.tick_at-requires
 tick_at-requires c =
     let args = c.args in
     let book = args.book.now in
-    let good = good_place _ _ _ _ _ c.check_place.ensures c.in-Good.is in
+    let good = good_place _ _ _ _ _ c.check_place.ensures c.in-Ok.is in
     let done = place_done book args.depot args.shelf good.0 in (
       done.0,
       subst (λ (x : Depot). x.0 < (counts_of book).depots) good.1 done.1,
       subst (λ (x : Shelf). x.0 < (counts_of book).shelves) good.2 done.2,
     )
 
-pub returns-in-Bad : goal.returns-in-Bad
+pub returns-in-Err : goal.returns-in-Err
 unfolding paper
-returns-in-Bad c =
-    let bad = bad_place _ _ _ _ c.check_place.ensures c.in-Bad.is in
+returns-in-Err c =
+    let bad = bad_place _ _ _ _ c.check_place.ensures c.in-Err.is in
     let e = tick_bad _ _ _ (not_done _ bad) ∙ bad in
     record { answer = by_refusal _ _ e; book = after_refused _ _ _ e }
 
-pub returns-in-Good : goal.returns-in-Good
-returns-in-Good c =
+pub returns-in-Ok : goal.returns-in-Ok
+returns-in-Ok c =
     let call = c.tick_at in
     let book = c.args.book.now in
-    let good = good_place _ _ _ _ _ c.check_place.ensures c.in-Good.is in
+    let good = good_place _ _ _ _ _ c.check_place.ensures c.in-Ok.is in
     subst₂ (λ (x : Depot) (y : Shelf). Tick book x.0 y.0 call.result call.new.book) (sym good.1) (sym good.2) call.ensures

@@ -6,14 +6,13 @@ use mathlib.Core.Path.{◌≡◌, ◌∙◌, sym, ap, ap₂, subst}
 use mathlib.Core.Bool.{true}
 use Rattle.loops.proofs.BoolLaws.{test_passed, test_failed}
 use Rattle.book.specs.declared.parts.Counts.{Counts}
-use Rattle.book.specs.declared.numbers.Depot.{Depot}
-use Rattle.book.specs.declared.numbers.Bearing.{Bearing}
+use Rattle.book.specs.Numbers.{Depot, Bearing}
 use Rattle.book.specs.Layout.{counts_of}
 use Rattle.named.specs.Named.{base_fit}
 use Rattle.named.proofs.NamedLaws.{Based, base_open}
 use Rattle.paper.specs.declared.answer.Refusal.TheVariants.{BadBook, BadDepot, BadKey}
 use Rattle.paper.specs.Answers.{number_of}
-use Rattle.register.proofs.KindLaws.{good_depot, bad_depot, good_bearing, bad_bearing}
+use Rattle.register.proofs.KindLaws.{good_number, bad_number}
 use Rattle.who.specs.Who.{who_parts}
 use Rattle.who.proofs.WhoLaws.{who_book, who_depot, who_key, who_parts_law, who_good, who_refused, who_done}
 use Rattle.who.proofs.who_has.Goals as goal
@@ -25,11 +24,11 @@ use Rattle.who.proofs.who_has.Reads as reads
 abbrev Else-not-base_fits : Type 0
 Else-not-base_fits = lts.Else1 tie.the-claims reads.Pre reads.Post
 
-abbrev In-Good : Type 0
-In-Good = lts.Past-After-known_told tie.the-claims reads.Pre reads.Post
+abbrev In-Some : Type 0
+In-Some = lts.Past-After-known_told tie.the-claims reads.Pre reads.Post
 
-abbrev In-Good-checked : Type 0
-In-Good-checked = lts.Past-After-known_told2 tie.the-claims reads.Pre reads.Post
+abbrev In-Some-checked : Type 0
+In-Some-checked = lts.Past-After-known_told2 tie.the-claims reads.Pre reads.Post
 
 abbrev After-stores_fit : Type 0
 After-stores_fit = lts.After-stores_fit tie.the-claims reads.Pre reads.Post
@@ -42,19 +41,19 @@ based : (c : Else-not-base_fits) → Based c.args.book.now
 based c = base_open _ (base c)
 
 depot_known :
-    (c : In-Good) → let args = c.args in
-    (args.depot < (counts_of args.book.now).depots) × (args.depot ≡ c.in-Good.d.0)
+    (c : In-Some) → let args = c.args in
+    (args.depot < (counts_of args.book.now).depots) × (args.depot ≡ c.in-Some.d.0)
 depot_known c =
     let args = c.args in
-    let good = good_depot _ c.checked.ensures c.in-Good.is in
+    let good = good_number _ c.checked.ensures c.in-Some.is in
     (subst (λ (n : Counts). args.depot < n.depots) c.counts_of-n.ensures good.0, ap (λ (x : Depot). x.0) good.1)
 
 bearing_known :
-    (c : In-Good-checked) → let args = c.args in
-    (args.bearing < (counts_of args.book.now).bearings) × (args.bearing ≡ c.in-Good-checked.k.0)
+    (c : In-Some-checked) → let args = c.args in
+    (args.bearing < (counts_of args.book.now).bearings) × (args.bearing ≡ c.in-Some-checked.k.0)
 bearing_known c =
     let args = c.args in
-    let good = good_bearing _ c.checked-2.ensures c.in-Good-checked.is in
+    let good = good_number _ c.checked-2.ensures c.in-Some-checked.is in
     let counts = c.counts_of-n.ensures in
     (subst (λ (n : Counts). args.bearing < n.bearings) counts good.0, ap (λ (x : Bearing). x.0) good.1)
 
@@ -78,7 +77,7 @@ pub returns-in_default : goal.returns-in_default
 unfolding number_of
 returns-in_default c =
     let args = c.args in
-    let bad = bad_depot c.checked.ensures c.in_default.is in
+    let bad = bad_number _ c.checked.ensures c.in_default.is in
     let over = subst (λ (n : Counts). n.depots ≤ args.depot) c.counts_of-n.ensures bad in
     who_refused _ _ _ BadDepot (who_depot _ _ _ (base c.before.before.before.before) over)
 
@@ -86,7 +85,7 @@ pub returns-in_default-checked : goal.returns-in_default-checked
 unfolding number_of
 returns-in_default-checked c =
     let args = c.args in
-    let bad = bad_bearing c.checked-2.ensures c.in_default-checked.is in
+    let bad = bad_number _ c.checked-2.ensures c.in_default-checked.is in
     let over = subst (λ (n : Counts). n.bearings ≤ args.bearing) c.counts_of-n.ensures bad in
     who_refused _ _ _ BadKey (who_key _ _ _ (base c.before.before.before.before.before.before) (depot_known c.before.before.before).0 over)
 

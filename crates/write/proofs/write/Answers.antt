@@ -3,8 +3,7 @@
 use Prim.Native.Nat.{◌<◌}
 use mathlib.Core.Path.{◌∙◌, sym, subst, subst₂}
 use Rattle.book.specs.Layout.{counts_of}
-use Rattle.book.specs.declared.numbers.Crew.{Crew}
-use Rattle.book.specs.declared.numbers.Bearing.{Bearing}
+use Rattle.book.specs.Numbers.{Crew, Bearing}
 use Rattle.paper.specs.Answers.{paper_write}
 use Rattle.register.specs.Promises.{Write}
 use Rattle.register.proofs.CallLaws.{bad_asked, good_asked, not_done, by_refusal, after_refused}
@@ -16,23 +15,23 @@ pub write_at-requires : goal.write_at-requires
 write_at-requires c =
     let args = c.args in
     let book = args.book.now in
-    let good = good_asked _ _ _ _ _ c.check_asked.ensures c.in-Good.is in
+    let good = good_asked _ _ _ _ _ c.check_asked.ensures c.in-Ok.is in
     let done = asked_done book args.crew args.bearing good.0 in (
       done.0,
       subst (λ (x : Crew). x.0 < (counts_of book).crews) good.1 done.1,
       subst (λ (x : Bearing). x.0 < (counts_of book).bearings) good.2 done.2,
     )
 
-pub returns-in-Bad : goal.returns-in-Bad
+pub returns-in-Err : goal.returns-in-Err
 unfolding paper_write
-returns-in-Bad c =
-    let bad = bad_asked _ _ _ _ c.check_asked.ensures c.in-Bad.is in
+returns-in-Err c =
+    let bad = bad_asked _ _ _ _ c.check_asked.ensures c.in-Err.is in
     let e = write_bad _ _ _ _ (not_done _ bad) ∙ bad in
     record { answer = by_refusal _ _ e; book = after_refused _ _ _ e }
 
-pub returns-in-Good : goal.returns-in-Good
-returns-in-Good c =
+pub returns-in-Ok : goal.returns-in-Ok
+returns-in-Ok c =
     let call = c.write_at in
     let args = c.args in
-    let good = good_asked _ _ _ _ _ c.check_asked.ensures c.in-Good.is in
+    let good = good_asked _ _ _ _ _ c.check_asked.ensures c.in-Ok.is in
     subst₂ (λ (x : Crew) (y : Bearing). Write args.book.now x.0 y.0 args.payload call.result call.new.book) (sym good.1) (sym good.2) call.ensures

@@ -6,10 +6,10 @@ use native.Mathlib.Omega.{arith}
 use mathlib.Core.Path.{◌≡◌, ◌∙◌, sym, ap, subst, subst₂}
 use mathlib.Core.Bool.{true}
 use lib.ListN.{get_or}
+use Rattle.std.specs.Prelude.{Some}
 use Rattle.loops.proofs.BoolLaws.{test_passed, test_failed}
 use Rattle.book.specs.declared.parts.Counts.{Counts}
 use Rattle.book.specs.Layout.{end, counts_of, home, crew_vector, clock}
-use Rattle.card.specs.declared.CardCheck.TheVariants.{Good}
 use Rattle.card.specs.Card.{card_fit, card_answer}
 use Rattle.card.proofs.Theorems.{good_tells, bad_tells}
 use Rattle.fit.specs.Fit.{Within}
@@ -44,8 +44,8 @@ Start = lts.Start tie.the-claims reads.Pre reads.Post
 abbrev Else-payload-gt-LAST_DAY : Type 0
 Else-payload-gt-LAST_DAY = lts.Else2 tie.the-claims reads.Pre reads.Post
 
-abbrev In-Good : Type 0
-In-Good = lts.Past-After-known_told tie.the-claims reads.Pre reads.Post
+abbrev In-Some : Type 0
+In-Some = lts.Past-After-known_told tie.the-claims reads.Pre reads.Post
 
 abbrev After-index : Type 0
 After-index = lts.After-index tie.the-claims reads.Pre reads.Post
@@ -78,10 +78,10 @@ begin c = c.before.before.before.before.before.before
 abbrev parts : Else-payload-gt-LAST_DAY → Else-not-write_parts_fit
 parts c = c.before.before
 
-abbrev day : In-Good → Else-payload-gt-LAST_DAY
+abbrev day : In-Some → Else-payload-gt-LAST_DAY
 day c = c.before.before
 
-abbrev card : After-index → In-Good
+abbrev card : After-index → In-Some
 card c = c.before.before.before
 
 abbrev index : Else-clock-book → After-index
@@ -108,13 +108,13 @@ dated : (c : Else-payload-gt-LAST_DAY) → c.args.payload.value ≤ last_day
 dated c = omega (arith, c.if-payload-gt-LAST_DAY.false)
 
 -- the card that was made is the one asked for, and its words are the payload's
-good : (c : In-Good) → let p = c.args.payload in card_answer p.diameter p.width ≡ Good c.in-Good.card
-good c = sym c.card_of.ensures ∙ c.in-Good.is
+good : (c : In-Some) → let p = c.args.payload in card_answer p.diameter p.width ≡ Some c.in-Some.card
+good c = sym c.card_of.ensures ∙ c.in-Some.is
 
-carded : (c : In-Good) → let p = c.args.payload in card_fit p.diameter p.width ≡ true
+carded : (c : In-Some) → let p = c.args.payload in card_fit p.diameter p.width ≡ true
 carded c = (good_tells _ _ _ (good c)).0
 
-same_payload : (c : In-Good) → let p = c.args.payload in payload_from p.value c.in-Good.card ≡ p
+same_payload : (c : In-Some) → let p = c.args.payload in payload_from p.value c.in-Some.card ≡ p
 same_payload c = payload_back _ _ (good c)
 
 -- where the write stands: the home shelf's clock, and the crew's home entry
@@ -186,7 +186,7 @@ roomy_said c =
     ∙ (λ z. roomy c.counts_of-n.result.depots (c.home_depot-d.ensures z) (c.shelf_for-s.ensures z) book)
     ∙ ap (λ (n : Counts). roomy n.depots (home book args.c.0) (args.k.0 % n.shelves) book) c.counts_of-n.ensures
 
-abbrev known : Else-not-is_roomy → In-Good
+abbrev known : Else-not-is_roomy → In-Some
 known c = card (index c.before.before.before)
 
 passed : (c : Else-not-is_roomy) → let args = c.args in write_number args.book.now args.c.0 args.k.0 args.payload ≡ 0
@@ -199,7 +199,7 @@ passed c =
 may :
     (c : Else-not-is_roomy) →
     let args = c.args in
-    MayWrite args.book.now args.c.0 args.k.0 (payload_from args.payload.value c.in-Good.card) c.counts_of-n.result.depots
+    MayWrite args.book.now args.c.0 args.k.0 (payload_from args.payload.value c.in-Some.card) c.counts_of-n.result.depots
     c.home_depot-d.result.0 c.shelf_for-s.result.0 (c.clock_of-clock.result + 1)
 may c =
     let args = c.args in
