@@ -66,10 +66,7 @@ fn read_all<R: Read>(
             break 'pieces;
         }
     }
-    Ok(Place {
-        kept: kept,
-        lines: lines,
-    })
+    Ok(Place { kept, lines })
 }
 
 fn main(rt: HostRuntime) -> io::Result<()> {
@@ -78,8 +75,6 @@ fn main(rt: HostRuntime) -> io::Result<()> {
     let mut input = [0u8; PIECE_BYTES];
     let mut out = [0u8; ANSWER_ROOM];
     let place = read_all(&mut rt.stdin(), &mut words, &mut line, &mut input)?;
-    let kept = place.kept;
-    let lines = place.lines;
-    let end = conclude(&mut words, &line, kept, lines, &mut out);
+    let end = conclude(&mut words, &line, place.kept, place.lines, &mut out);
     rt.write_all(&out[..end])
 }

@@ -2,7 +2,7 @@
 // file `stdout`.
 #![tactic(auto)]
 
-use history::stream::{HISTORY_WORDS, KEPT_BYTES, feed};
+use history::stream::{HISTORY_WORDS, KEPT_BYTES, Place, feed};
 use report::conclude::conclude;
 use report::say::ANSWER_ROOM;
 use std::io;
@@ -12,16 +12,11 @@ fn tell(rt: &impl Print, text: &[u8], times: u32) -> io::Result<()> {
     let mut words = [0u32; HISTORY_WORDS];
     let mut line = [0u8; KEPT_BYTES];
     let mut out = [0u8; ANSWER_ROOM];
-    let mut kept = 0;
-    let mut lines = 0;
-    let mut i = 0;
-    while i < times {
-        let place = feed(&mut words, &mut line, kept, lines, text);
-        kept = place.kept;
-        lines = place.lines;
-        i += 1;
+    let mut place = Place { kept: 0, lines: 0 };
+    'times: for _ in 0..times {
+        place = feed(&mut words, &mut line, place.kept, place.lines, text);
     }
-    let end = conclude(&mut words, &line, kept, lines, &mut out);
+    let end = conclude(&mut words, &line, place.kept, place.lines, &mut out);
     rt.write_all(&out[..end])
 }
 

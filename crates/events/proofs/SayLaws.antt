@@ -9,6 +9,8 @@ use lib.Dec.{eqb}
 use lib.ListN as list
 use lib.ListN.{length, length-map, replicate, length-append, length-take}
 use lib.Seq.{length-sets}
+use Rattle.std.specs.Prelude.{Option, None, Some}
+use Rattle.std.proofs.lemmas.Option.{none-some, same_Some}
 use borrow.Author.Tests.{eqb-true}
 use Rattle.loops.specs.Loops.{pick}
 use Rattle.order.specs.Record.{vector_of}
@@ -31,7 +33,6 @@ use Rattle.calls.specs.Performed.{request_of}
 use Rattle.line.specs.Grammar.{most_numbers, InGrammar}
 use Rattle.line.specs.Reading.{Reading, bad, good, reading, line_of}
 use Rattle.line.specs.Printing.{Wrote}
-use Rattle.line.specs.declared.reader.Said.TheVariants.{BadLine, Names}
 use Rattle.line.specs.declared.reader.Line.{Line}
 use Rattle.line.proofs.Theorems.{read_says, most_fits, answer_says}
 use Rattle.line.proofs.PrintLaws.{wrote_length, decimal_length}
@@ -42,38 +43,47 @@ use Rattle.events.specs.Answering.{event_says, reading_says, reading_book, readi
 
 -- ---- the numbers of a line
 
-bad_only : (r : Reading) → (line_of r).said ≡ BadLine → r ≡ bad
+bad_only : (r : Reading) → line_of r ≡ None → r ≡ bad
 unfolding line_of
 bad_only bad h = refl
-bad_only (good e ns) h = absurd (let z : ◌≡◌ {A = ℕ} 0 1 = cc in omega arith)
+bad_only (good e ns) h = absurd (none-some _ (sym h))
 
-most_numbers_law : (s : List ℕ) (r : Reading) → reading s ≡ r → (line_of r).count ≤ most_numbers
+-- a line that the reader says is bad
+pub told_bad : (s : List ℕ) {t : Option Line} → t ≡ line_of (reading s) → t ≡ None → reading s ≡ bad
+told_bad s p h = bad_only (reading s) (sym p ∙ h)
+
+-- what is known of a line that it hands back
+record Kept (s : List ℕ) (x : Line) : Type 0 where
+  says : InGrammar s x.event (list.take x.count x.numbers)
+  few : x.count ≤ most_numbers
+  room : length x.numbers ≡ most_numbers
+
+kept_of : (s : List ℕ) (x : Line) (r : Reading) → reading s ≡ r → line_of r ≡ Some x → Kept s x
 unfolding line_of
-most_numbers_law s bad p = omega arith
-most_numbers_law s (good e ns) p = let h = (read_says s e ns p).not_over in let k = most_fits e in omega arith
+kept_of s x bad p h = absurd (none-some x h)
+kept_of s x (good e ns) p h =
+    let few = (read_says s e ns p).not_over in
+    let most = most_fits e in
+    let same = same_Some _ x h in
+    record {
+      says = answer_says s x (ap line_of p ∙ h);
+      few = subst (λ (y : Line). y.count ≤ most_numbers) same (omega arith);
+      room = subst (λ (y : Line). length y.numbers ≡ most_numbers) same (length-sets (replicate most_numbers 0) 0 ns);
+    }
 
-numbers_room : (r : Reading) → length (line_of r).numbers ≡ most_numbers
-unfolding line_of
-numbers_room bad = refl
-numbers_room (good e ns) = length-sets (replicate most_numbers 0) 0 ns
+module _ (s : List ℕ) {t : Option Line} {x : Line} (p : t ≡ line_of (reading s)) (q : t ≡ Some x) where
+  kept : Kept s x
+  kept = kept_of s x (reading s) refl (sym p ∙ q)
 
-module _ {t : Line} (s : List ℕ) (p : t ≡ line_of (reading s)) where
-  -- a line that the reader says is bad
-  pub told_bad : t.said ≡ BadLine → reading s ≡ bad
-  told_bad h = bad_only (reading s) (sym (ap (λ (x : Line). x.said) p) ∙ h)
+  -- it says its event with the numbers that count
+  pub told_event : InGrammar s x.event (list.take x.count x.numbers)
+  told_event = kept.says
 
-  -- one that names an event says it with the numbers that count
-  pub told_event : (e : Event) → t.said ≡ Names e → InGrammar s e (list.take t.count t.numbers)
-  told_event e h = subst (λ (x : Line). x.said ≡ Names e → InGrammar s e (list.take x.count x.numbers)) (sym p) (answer_says s e) h
+  pub told_count : x.count ≤ most_numbers
+  told_count = kept.few
 
-  pub told_count : t.count ≤ most_numbers
-  told_count = subst (λ (x : Line). x.count ≤ most_numbers) (sym p) (most_numbers_law s (reading s) refl)
-
-  pub told_room_law : length t.numbers ≡ most_numbers
-  told_room_law = ap (λ (x : Line). length x.numbers) p ∙ numbers_room (reading s)
-
-  pub told_part : t.count ≡ length (list.take t.count t.numbers)
-  told_part = let h = told_count in let k = told_room_law in rw (length-take t.count t.numbers) (omega arith)
+  pub told_part : x.count ≡ length (list.take x.count x.numbers)
+  told_part = let h = told_count in let k = kept.room in rw (length-take x.count x.numbers) (omega arith)
 
 -- ---- what a line says, known by its case
 

@@ -7,7 +7,7 @@ ghost use Rattle.reply.specs.Printed.{answer_room};
 ghost use Rattle.events.specs.Answering.{event_says, event_book, event_done, reading_says, reading_book, reading_done, answer_to, book_after_line, record_to, record_room};
 
 use line::answers::answer_number;
-use line::reader::{Said, read_line};
+use line::reader::read_line;
 use recorder::record_at;
 use reply::say;
 use request::ask::{Event, beside_in, request_of};
@@ -58,16 +58,12 @@ fn say_line(book: &mut [u32], line: &[u8], out: &mut [u8], log: &mut [u8], at: P
     ensures wrote { Wrote out.old at.out (reading_says book.old (reading line.now)) out.new result.out }
     ensures wrote_2 { Wrote log.old at.log (journal (reading_done book.old (reading line.now))) log.new result.log }
 {
-    let told = read_line(line);
-    let said = told.said;
-    let numbers = told.numbers;
-    let count = told.count;
-    match said {
-        Said::BadLine => Places {
+    match read_line(line) {
+        None => Places {
             out: answer_number(out, at.out, BAD_LINE),
             log: at.log,
         },
-        Said::Names(event) => run_event(book, event, &numbers[..count], out, log, at),
+        Some(told) => run_event(book, told.event, &told.numbers[..told.count], out, log, at),
     }
 }
 

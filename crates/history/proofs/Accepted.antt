@@ -3,21 +3,21 @@
 -- Assumes nothing.
 use Prim.Native.Nat.{ℕ, zero, suc, ◌+◌, ◌-◌, ◌≤◌}
 use native.Mathlib.Omega.{arith}
-use mathlib.Core.Path.{◌≡◌, refl, sym, ◌∙◌, ap, ap₂, subst}
+use mathlib.Core.Path.{◌≡◌, refl, sym, ◌∙◌, ap, ap₂}
 use mathlib.Core.Logic.{◌↔◌, ◌⊎◌, inl, inr, ⊎_elim}
 use mathlib.Core.List.{List, [], ◌∷◌, ◌++◌, append-nil}
-use mathlib.Core.Option.{Option, none, some}
+use Rattle.std.specs.Prelude.{Option, None, Some}
 use mathlib.Core.Bool.{Bool, true, false, ◌&&◌, not}
 use lib.Dec.{leb, eqb}
-use lib.ListN.{length, get_or, take, drop, replicate, length-append, take-append-drop, drop_of_length-le, length-replicate}
+use lib.ListN.{length, get_or, take, drop, replicate, length-append, take-append-drop, drop_of_length-le}
 use lib.Seq.{sets, sets-eq, take_at, drop-cons, get_or-append-add}
-use borrow.Author.Tests.{eq-eqb, eqb-true, eqb-false, ne_eqb, leb-true}
+use borrow.Author.Tests.{eq-eqb, eqb-true, ne_eqb, leb-true}
 use Rattle.loops.specs.Loops.{pick}
-use Rattle.loops.proofs.BoolLaws.{decided, failed, both_ways, and_left, and_right, and_intro, not_failed, not_passed, eq_or_ne, le_or_lt, pick_true, pick_false}
+use Rattle.loops.proofs.BoolLaws.{decided, failed, both_ways, and_left, and_right, and_intro, not_failed, not_passed, eq_or_ne, pick_true, pick_false}
 use Rattle.line.specs.Number.{decimal, is_digit, digit_run, most_number}
 use Rattle.line.specs.Grammar.{spaced, word_sized}
 use Rattle.line.specs.Reading.{numbers_in}
-use Rattle.line.proofs.GrammarLaws.{Prints, numbers_printed, numbers_read}
+use Rattle.line.proofs.GrammarLaws.{numbers_printed, numbers_read}
 use Rattle.line.proofs.PrintLaws.{spaced_length}
 use Rattle.line.proofs.Theorems.{decimal_spells}
 use Rattle.history.specs.Entry.{Says, a_write, a_read, an_unwritten, unwritten, kinded, dashed, read_in, entry_in, stored}
@@ -49,7 +49,7 @@ plain_digits (b ∷ l) h =
     let low = leb-true 48 b (and_left (leb 48 b) _ d) in
     let rest : suc (digit_run l) ≡ suc (length l) = sym (pick_true _ _ d) ∙ h in
     and_intro (not_failed (ne_eqb b 45 (λ e. omega arith))) (plain_digits l (omega arith)))
-    (λ (d : leb 48 b && leb b 57 ≡ false). let none : 0 ≡ suc (length l) = sym (pick_false _ _ d) ∙ h in absurd (omega arith))
+    (λ (d : leb 48 b && leb b 57 ≡ false). let None : 0 ≡ suc (length l) = sym (pick_false _ _ d) ∙ h in absurd (omega arith))
     (decided (leb 48 b && leb b 57))
 
 plain_spaced : (ns : List ℕ) → word_sized ns ≡ true → plain (spaced ns) ≡ true
@@ -75,7 +75,7 @@ whole_words k ns e =
     sets-eq (k ∷ ns) (replicate 11 0) 0 (omega arith)
     ∙ ap (λ (l : List ℕ). (k ∷ ns) ++ l) (drop_of_length-le (replicate 11 0) {i = 0 + suc (length ns)} (omega arith)) ∙ append-nil (k ∷ ns)
 
-kinded_some : (kind count : ℕ) (ns : List ℕ) → length ns ≡ count → kinded kind count (some ns) ≡ some (sets (replicate 11 0) 0 (kind ∷ ns))
+kinded_some : (kind count : ℕ) (ns : List ℕ) → length ns ≡ count → kinded kind count (Some ns) ≡ Some (sets (replicate 11 0) 0 (kind ∷ ns))
 unfolding kinded
 kinded_some kind count ns e = pick_true _ _ (eq-eqb _ _ e)
 
@@ -87,16 +87,16 @@ record Kinded (kind count : ℕ) (l ws : List ℕ) : Type 0 where
   in_range : word_sized numbers ≡ true
   words : sets (replicate 11 0) 0 (kind ∷ numbers) ≡ ws
 
-never : {ws : List ℕ} → none ≡ some ws → ⊥
+never : {ws : List ℕ} → None ≡ Some ws → ⊥
 never e = let z : ◌≡◌ {A = ℕ} 0 1 = cc in omega arith
 
-kinded_parts : (kind count : ℕ) (l ws : List ℕ) (m : Option (List ℕ)) → numbers_in count l ≡ m → kinded kind count m ≡ some ws → Kinded kind count l ws
+kinded_parts : (kind count : ℕ) (l ws : List ℕ) (m : Option (List ℕ)) → numbers_in count l ≡ m → kinded kind count m ≡ Some ws → Kinded kind count l ws
 unfolding kinded
-kinded_parts kind count l ws none p h = absurd (never h)
-kinded_parts kind count l ws (some ns) p h =
+kinded_parts kind count l ws None p h = absurd (never h)
+kinded_parts kind count l ws (Some ns) p h =
     ⊎_elim
     (λ (t : eqb (length ns) count ≡ true).
-    let same : some (sets (replicate 11 0) 0 (kind ∷ ns)) ≡ some ws = sym (pick_true _ _ t) ∙ h in
+    let same : Some (sets (replicate 11 0) 0 (kind ∷ ns)) ≡ Some ws = sym (pick_true _ _ t) ∙ h in
     let prints = numbers_read count l ns p in
     record { numbers = ns; counted = eqb-true (length ns) count t; bytes = prints.bytes; in_range = prints.in_range; words = cc })
     (λ (t : eqb (length ns) count ≡ false). absurd (never (sym (pick_false _ _ t) ∙ h)))
@@ -115,7 +115,7 @@ module _ (c k : ℕ) where
   unfolding line
   long = length-append head (32 ∷ 45 ∷ [])
 
-  unwritten_read : word_sized (c ∷ k ∷ []) ≡ true → read_in line ≡ some (unwritten c k)
+  unwritten_read : word_sized (c ∷ k ∷ []) ≡ true → read_in line ≡ Some (unwritten c k)
   unfolding head line kinded pick
   unwritten_read r =
       let two : length line - 2 ≡ length head + 0 = let e = long in omega arith in
@@ -127,14 +127,14 @@ module _ (c k : ℕ) where
       ∙ ap (λ (l : List ℕ). kinded 1 2 (numbers_in 2 (drop 1 l))) (ap (λ (i : ℕ). take i line) all ∙ take_at head (32 ∷ 45 ∷ []) (length head) refl)
       ∙ ap (kinded 1 2) (numbers_printed 2 (c ∷ k ∷ []) (omega arith) r)
 
-pub says_read : {s ws : List ℕ} → Says s ws → entry_in s ≡ some ws
+pub says_read : {s ws : List ℕ} → Says s ws → entry_in s ≡ Some ws
 says_read (a_write {ns} e r) =
     entry_write (87 ∷ spaced ns) (λ z. omega arith) refl
-    ∙ ap (kinded 0 10) (numbers_printed 10 ns (omega arith) r) ∙ kinded_some 0 10 ns e ∙ ap some (whole_words 0 ns e)
+    ∙ ap (kinded 0 10) (numbers_printed 10 ns (omega arith) r) ∙ kinded_some 0 10 ns e ∙ ap Some (whole_words 0 ns e)
 says_read (a_read {ns} e r) =
     entry_read (82 ∷ spaced ns) (λ z. omega arith) refl
     ∙ numbered
-    ∙ ap (kinded 1 10) (numbers_printed 10 ns (omega arith) r) ∙ kinded_some 1 10 ns e ∙ ap some (whole_words 1 ns e)
+    ∙ ap (kinded 1 10) (numbers_printed 10 ns (omega arith) r) ∙ kinded_some 1 10 ns e ∙ ap Some (whole_words 1 ns e)
   where
     numbered : read_in (82 ∷ spaced ns) ≡ kinded 1 10 (numbers_in 10 (spaced ns))
     numbered =
@@ -160,7 +160,7 @@ last_two l h p q =
     (ap (λ (i : ℕ). drop i l) next ∙ drop-cons l (length l - 1) 0 (omega arith)
     ∙ ap₂ (λ (x : ℕ) (y : List ℕ). x ∷ y) q (drop_of_length-le l {i = suc (length l - 1)} (omega arith)))
 
-dash_says : (l ws : List ℕ) → dashed (82 ∷ l) ≡ true → read_in (82 ∷ l) ≡ some ws → Says (82 ∷ l) ws
+dash_says : (l ws : List ℕ) → dashed (82 ∷ l) ≡ true → read_in (82 ∷ l) ≡ Some ws → Says (82 ∷ l) ws
 unfolding read_in dashed
 dash_says l ws t h = pairs p.numbers p.counted p.bytes p.in_range p.words
   where
@@ -194,7 +194,7 @@ dash_says l ws t h = pairs p.numbers p.counted p.bytes p.in_range p.words
         (sym (sym (take-append-drop (length l - 2) l) ∙ ap₂ (λ (x y : List ℕ). x ++ y) b (last_two l two space dash)))) w (an_unwritten {c = c} {k = k} r)
     pairs (c ∷ k ∷ x ∷ ns) e b r w = absurd (omega arith)
 
-pub read_says : (s ws : List ℕ) → entry_in s ≡ some ws → Says s ws
+pub read_says : (s ws : List ℕ) → entry_in s ≡ Some ws → Says s ws
 read_says [] ws h = absurd (never (sym (entry_empty [] refl) ∙ h))
 read_says (b ∷ l) ws h =
     ⊎_elim
@@ -210,25 +210,25 @@ read_says (b ∷ l) ws h =
     (eq_or_ne b 82))
     (eq_or_ne b 87)
   where
-    reads : read_in (82 ∷ l) ≡ some ws → (dashed (82 ∷ l) ≡ true) ⊎ (dashed (82 ∷ l) ≡ false) → Says (82 ∷ l) ws
+    reads : read_in (82 ∷ l) ≡ Some ws → (dashed (82 ∷ l) ≡ true) ⊎ (dashed (82 ∷ l) ≡ false) → Says (82 ∷ l) ws
     reads k (inl t) = dash_says l ws t k
     reads k (inr t) = tens 1 82 l ws (kinded_parts 1 10 l ws (numbers_in 10 l) refl (sym (read_plain (82 ∷ l) t) ∙ k)) (λ ns e r. a_read e r)
 
 -- accepted exactly if it is in the grammar
-pub accepted_exactly : (s ws : List ℕ) → (entry_in s ≡ some ws) ↔ Says s ws
+pub accepted_exactly : (s ws : List ℕ) → (entry_in s ≡ Some ws) ↔ Says s ws
 accepted_exactly s ws = (read_says s ws, λ h. says_read h)
 
 -- and bad exactly if it is not
-pub refused_exactly : (s : List ℕ) → (entry_in s ≡ none) ↔ ((ws : List ℕ) → Says s ws → ⊥)
+pub refused_exactly : (s : List ℕ) → (entry_in s ≡ None) ↔ ((ws : List ℕ) → Says s ws → ⊥)
 refused_exactly s = (λ h ws w. never (sym h ∙ says_read w), λ h. other (entry_in s) refl h)
   where
-    other : (m : Option (List ℕ)) → entry_in s ≡ m → ((ws : List ℕ) → Says s ws → ⊥) → entry_in s ≡ none
-    other none p h = p
-    other (some ws) p h = absurd (h ws (read_says s ws p))
+    other : (m : Option (List ℕ)) → entry_in s ≡ m → ((ws : List ℕ) → Says s ws → ⊥) → entry_in s ≡ None
+    other None p h = p
+    other (Some ws) p h = absurd (h ws (read_says s ws p))
 
 -- one reading
 pub one_reading : {s ws ws' : List ℕ} → Says s ws → Says s ws' → ws ≡ ws'
-one_reading {ws = ws} {ws' = ws'} p q = let same : some ws ≡ some ws' = sym (says_read p) ∙ says_read q in cc
+one_reading {ws = ws} {ws' = ws'} p q = let same : Some ws ≡ Some ws' = sym (says_read p) ∙ says_read q in cc
 
 -- and eleven words
 pub says_words : {s ws : List ℕ} → Says s ws → length ws ≡ 11
@@ -241,8 +241,8 @@ pub stored_length : (s : List ℕ) → length (stored (entry_in s)) ≡ 11
 stored_length s = go (entry_in s) refl
   where
     go : (m : Option (List ℕ)) → entry_in s ≡ m → length (stored m) ≡ 11
-    go none e = unfold stored in refl
-    go (some ws) e = unfold stored in says_words (read_says s ws e)
+    go None e = unfold stored in refl
+    go (Some ws) e = unfold stored in says_words (read_says s ws e)
 
 -- no line of the grammar is longer than 111 bytes
 says_short : {s ws : List ℕ} → Says s ws → length s ≤ 111
@@ -251,5 +251,5 @@ says_short (a_read {ns} e r) = let l = spaced_length ns in omega arith
 says_short (an_unwritten {c} {k} r) =
     let l = spaced_length (c ∷ k ∷ []) in let e = length-append (spaced (c ∷ k ∷ [])) (32 ∷ 45 ∷ []) in omega arith
 
-pub entry_long : (s : List ℕ) → 112 ≤ length s → entry_in s ≡ none
+pub entry_long : (s : List ℕ) → 112 ≤ length s → entry_in s ≡ None
 entry_long s l = (refused_exactly s).1 (λ ws w. let m = says_short w in omega arith)

@@ -1,13 +1,12 @@
 -- Reading the numbers of an entry's line: from each place on, what is left is read as the whole is.
 -- Assumes nothing.
 use Prim.Native.Nat.{ℕ, suc, ◌+◌, ◌-◌, ◌≤◌, ◌<◌}
-use native.Mathlib.Numerals.{add-one}
 use native.Mathlib.Nat.{zero-add}
 use native.Mathlib.Omega.{arith}
 use mathlib.Core.Path.{◌≡◌, refl, sym, ◌∙◌, ap}
 use mathlib.Core.List.{List, []}
-use mathlib.Core.Option.{Option, none, some}
-use mathlib.Core.Bool.{Bool, true, false, ◌&&◌}
+use Rattle.std.specs.Prelude.{Option, None, Some}
+use mathlib.Core.Bool.{Bool, true, false}
 use lib.Dec.{eqb}
 use lib.ListN.{length, get_or, take, drop, replicate, set}
 use lib.Seq.{sets}
@@ -15,45 +14,41 @@ use borrow.Author.Tests.{eq-eqb, ne_eqb, le-leb, lt-leb}
 use Rattle.loops.specs.Loops.{pick}
 use Rattle.loops.proofs.BoolLaws.{and_intro, and_next, and_stop, pick_true, pick_false}
 use Rattle.line.specs.Reading.{before, numbers_in}
-use Rattle.history.specs.Entry.{bad_words, stored, kinded, dashed, read_in, entry_in}
+use Rattle.history.specs.Entry.{kinded, dashed, read_in, entry_in}
 
 -- the answer of a reader that has stored n numbers in ws and finds m after them
-unfoldable pub filled : ℕ → List ℕ → ℕ → Option (List ℕ) → List ℕ
-filled count ws n none = bad_words
-filled count ws n (some ns) = pick (eqb (n + length ns) count) (sets ws (n + 1) ns) bad_words
+unfoldable pub filled : ℕ → List ℕ → ℕ → Option (List ℕ) → Option (List ℕ)
+filled count ws n None = None
+filled count ws n (Some ns) = pick (eqb (n + length ns) count) (Some (sets ws (n + 1) ns)) None
 
-pub filled_start : (kind count : ℕ) (m : Option (List ℕ)) → filled count (set (replicate 11 0) 0 kind) 0 m ≡ stored (kinded kind count m)
-unfolding filled kinded stored pick
-filled_start kind count none = refl
-filled_start kind count (some ns) = rw zero-add (choice (eqb (length ns) count))
-  where
-    choice : (t : Bool) → pick t (sets (set (replicate 11 0) 0 kind) 1 ns) bad_words ≡ stored (pick t (some (sets (set (replicate 11 0) 0 kind) 1 ns)) none)
-    choice true = refl
-    choice false = refl
+pub filled_start : (kind count : ℕ) (m : Option (List ℕ)) → filled count (set (replicate 11 0) 0 kind) 0 m ≡ kinded kind count m
+unfolding filled kinded
+filled_start kind count None = refl
+filled_start kind count (Some ns) = rw zero-add
 
 filled_more : (count : ℕ) (ws : List ℕ) (n v : ℕ) (m : Option (List ℕ)) → filled count ws n (before v m) ≡ filled count (set ws (n + 1) v) (n + 1) m
 unfolding filled before
-filled_more count ws n v none = refl
-filled_more count ws n v (some ns) =
+filled_more count ws n v None = refl
+filled_more count ws n v (Some ns) =
     let c : n + suc (length ns) ≡ n + 1 + length ns = omega arith in
     let d : suc (n + 1) ≡ n + 1 + 1 = omega arith in
     rw (c, d)
 
-pub filled_wrong : (count : ℕ) (ws : List ℕ) (n : ℕ) → (n ≡ count → ⊥) → filled count ws n (some []) ≡ bad_words
+pub filled_wrong : (count : ℕ) (ws : List ℕ) (n : ℕ) → (n ≡ count → ⊥) → filled count ws n (Some []) ≡ None
 unfolding filled
 filled_wrong count ws n h = pick_false _ _ (ne_eqb (n + 0) count (λ e. h (omega arith)))
 
-pub filled_right : (count : ℕ) (ws : List ℕ) (n : ℕ) → n ≡ count → filled count ws n (some []) ≡ ws
+pub filled_right : (count : ℕ) (ws : List ℕ) (n : ℕ) → n ≡ count → filled count ws n (Some []) ≡ Some ws
 unfolding filled
 filled_right count ws n h = pick_true _ _ (eq-eqb (n + 0) count (omega arith))
 
 -- a reader that finds no number after those that it has stored
-pub filled_refused : (count : ℕ) (ws : List ℕ) (n : ℕ) {m : Option (List ℕ)} {x : List ℕ} → filled count ws n m ≡ x → m ≡ none → bad_words ≡ x
+pub filled_refused : (count : ℕ) (ws : List ℕ) (n : ℕ) {m : Option (List ℕ)} {x : Option (List ℕ)} → filled count ws n m ≡ x → m ≡ None → None ≡ x
 unfolding filled
 filled_refused count ws n p q = sym (ap (filled count ws n) q) ∙ p
 
 -- one that finds a number and stores it
-pub filled_turn : (count : ℕ) (ws : List ℕ) (n v : ℕ) (l l' : List ℕ) {x : List ℕ}
+pub filled_turn : (count : ℕ) (ws : List ℕ) (n v : ℕ) (l l' : List ℕ) {x : Option (List ℕ)}
     → n ≤ count
     → (n ≡ count → ⊥)
     → filled count ws n (numbers_in (count - n) l) ≡ x
@@ -89,7 +84,7 @@ module _ (s : List ℕ) where
 
   -- ---- the first byte
 
-  pub entry_empty : length s ≡ 0 → entry_in s ≡ none
+  pub entry_empty : length s ≡ 0 → entry_in s ≡ None
   unfolding entry_in
   entry_empty h = pick_true _ _ (eq-eqb _ _ h)
 
@@ -102,10 +97,10 @@ module _ (s : List ℕ) where
   entry_read h k =
       pick_false _ _ (ne_eqb _ _ h) ∙ pick_false _ _ (ne_eqb (get_or s 0 0) 87 (λ e. omega (arith, e, k))) ∙ pick_true _ _ (eq-eqb _ _ k)
 
-  pub entry_other : (get_or s 0 0 ≡ 87 → ⊥) → (get_or s 0 0 ≡ 82 → ⊥) → entry_in s ≡ none
+  pub entry_other : (get_or s 0 0 ≡ 87 → ⊥) → (get_or s 0 0 ≡ 82 → ⊥) → entry_in s ≡ None
   unfolding entry_in
   entry_other w r =
-      ap (pick (eqb (length s) 0) none) (pick_false _ _ (ne_eqb _ _ w) ∙ pick_false _ _ (ne_eqb _ _ r)) ∙ same (eqb (length s) 0) none
+      ap (pick (eqb (length s) 0) None) (pick_false _ _ (ne_eqb _ _ w) ∙ pick_false _ _ (ne_eqb _ _ r)) ∙ same (eqb (length s) 0) None
     where
       same : (t : Bool) (x : Option (List ℕ)) → pick t x x ≡ x
       same true x = unfold pick in refl

@@ -1,27 +1,26 @@
 -- The laws of the input byte by byte: what the end of a line and a byte do to the buffers that are lent, and that a loop over a piece goes on as the
 -- whole does.
 -- Assumes nothing.
-use Prim.Native.Nat.{ℕ, suc, ◌+◌, ◌*◌, ◌≤◌, ◌<◌}
+use Prim.Native.Nat.{ℕ, ◌+◌, ◌*◌, ◌≤◌, ◌<◌}
 use native.Mathlib.Numerals.{add-one}
 use native.Mathlib.Omega.{arith}
 use mathlib.Core.Path.{◌≡◌, refl, sym, ◌∙◌, ap, ap₂, subst}
 use mathlib.Core.List.{List, [], ◌∷◌, ◌++◌}
 use lib.ListN.{length, get_or, take, drop, set, replicate, length-set, length-replicate, drop_of_length-le}
 use lib.Seq.{sets, length-sets, drop-cons, take-suc-set, length-take-le}
+use Rattle.std.specs.Prelude.{Option, None, Some, unwrap_or}
 use borrow.Author.Tests.{eq-eqb, ne_eqb, lt-ltb, le-ltb}
 use Rattle.loops.proofs.BoolLaws.{pick_true, pick_false}
-use Rattle.history.specs.Entry.{stored, entry_in}
+use Rattle.history.specs.Entry.{bad_words, stored, entry_in}
 use Rattle.history.specs.Stream.{Read, Fits, Seen, state, start, ended, grown, fed, through, finished}
 
--- ---- words stored one after the other: what is left makes the whole
+-- ---- what is stored of a line
 
-pub sets_next : (o vs : List ℕ) (at x : ℕ) → x < length vs → sets (set o (at + x) (get_or vs x 0)) (at + (x + 1)) (drop (x + 1) vs) ≡ sets o (at + x) (drop x vs)
-sets_next o vs at x h =
-    let e : at + (x + 1) ≡ suc (at + x) = omega arith in
-    rw (e, add-one) (sym (ap (sets o (at + x)) (drop-cons vs x 0 h)))
-
-pub sets_over : (o vs : List ℕ) (at x : ℕ) → length vs ≤ x → sets o (at + x) (drop x vs) ≡ o
-sets_over o vs at x h = ap (sets o (at + x)) (drop_of_length-le vs h)
+-- of a line that says no entry the bad words
+pub stored_or : (m : Option (List ℕ)) → unwrap_or m bad_words ≡ stored m
+unfolding stored
+stored_or None = refl
+stored_or (Some ws) = refl
 
 -- ---- the end of a line
 

@@ -4,11 +4,11 @@ use Prim.Native.Nat.{ℕ, suc, ◌+◌, ◌*◌, ◌≤◌, ◌<◌}
 use native.Mathlib.Nat.{add-zero, zero-add}
 use native.Mathlib.Omega.{arith}
 use mathlib.Core.Path.{◌≡◌, refl, sym, ◌∙◌, ap, ap₂, subst}
-use mathlib.Core.Logic.{◌⊎◌, inl, inr, ⊎_elim}
+use mathlib.Core.Logic.{⊎_elim}
 use mathlib.Core.List.{List, [], ◌∷◌, ◌++◌, append-nil, append_assoc}
 use mathlib.Core.Bool.{Bool, true, false}
-use lib.Dec.{ltb, eqb}
-use lib.ListN.{length, take, drop, length-append, length-replicate, replicate}
+use lib.Dec.{ltb}
+use lib.ListN.{length, take, drop, length-append, length-replicate}
 use lib.Seq.{sets, sets-eq, length-sets, take_all, take-append-le, take_at, length-take-le}
 use borrow.Author.Tests.{eq-eqb, ne_eqb, lt-ltb, le-ltb}
 use Rattle.loops.specs.Loops.{pick}

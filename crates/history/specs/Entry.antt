@@ -1,8 +1,7 @@
 -- The line of an entry, to the byte, and how any bytes are read as one.
 --   W crew bearing value diameter width origin e0 e1 e2 e3 · R likewise · R crew bearing - of a bearing that is unwritten
 -- Assumes nothing.
-use Rattle.std.specs.Prelude.{ℕ, ◌-◌, ◌≤◌, ◌≡◌, Bool, true, ◌&&◌, List, [], ◌∷◌, ◌++◌, leb, eqb, length, get_or, take, drop, replicate}
-use Rattle.std.proofs.Math.Option.{Option, none, some}
+use Rattle.std.specs.Prelude.{ℕ, ◌-◌, ◌≡◌, Bool, true, ◌&&◌, List, [], ◌∷◌, ◌++◌, leb, eqb, length, get_or, take, drop, replicate, Option, None, Some}
 use Rattle.std.proofs.lemmas.List.Edits.{sets}
 use Rattle.loops.specs.Loops.{pick}
 use Rattle.line.specs.Grammar.{space_byte, spaced, word_sized}
@@ -37,8 +36,8 @@ pub data Says : List ℕ → List ℕ → Type 0 where
 
 -- the words of an entry of this kind with the numbers ns, if they are so many; what is left of the eleven is 0
 unfoldable pub kinded : ℕ → ℕ → Option (List ℕ) → Option (List ℕ)
-kinded kind count none = none
-kinded kind count (some ns) = pick (eqb (length ns) count) (some (sets (replicate entry_words 0) 0 (kind ∷ ns))) none
+kinded kind count None = None
+kinded kind count (Some ns) = pick (eqb (length ns) count) (Some (sets (replicate entry_words 0) 0 (kind ∷ ns))) None
 
 -- the line ends in a dash after a space
 unfoldable pub dashed : List ℕ → Bool
@@ -51,8 +50,8 @@ read_in s = pick (dashed s) (kinded 1 2 (numbers_in 2 (drop 1 (take (length s - 
 -- the entry that a line says, by its first byte; an empty one says none
 unfoldable pub entry_in : List ℕ → Option (List ℕ)
 entry_in s =
-    pick (eqb (length s) 0) none
-    (pick (eqb (get_or s 0 0) write_byte) (kinded 0 most_numbers (numbers_in most_numbers (drop 1 s))) (pick (eqb (get_or s 0 0) read_byte) (read_in s) none))
+    pick (eqb (length s) 0) None
+    (pick (eqb (get_or s 0 0) write_byte) (kinded 0 most_numbers (numbers_in most_numbers (drop 1 s))) (pick (eqb (get_or s 0 0) read_byte) (read_in s) None))
 
 -- what is stored of a line that says no entry: an entry of no kind
 abbrev pub bad_words : List ℕ
@@ -60,5 +59,5 @@ bad_words = 2 ∷ replicate 10 0
 
 -- and of any line
 unfoldable pub stored : Option (List ℕ) → List ℕ
-stored none = bad_words
-stored (some ws) = ws
+stored None = bad_words
+stored (Some ws) = ws

@@ -1,60 +1,51 @@
 // The line of an entry: W or R and ten numbers, each after exactly one space; or R, crew, bearing and a dash, of a bearing that is unwritten.
 ghost use Rattle.std.specs.Prelude.{◌≡◌, ◌≤◌, drop};
 ghost use Rattle.line.specs.Reading.{numbers_in};
-ghost use Rattle.history.specs.Entry.{most_numbers, bad_words, stored, kinded, read_in, entry_in};
+ghost use Rattle.history.specs.Entry.{most_numbers, kinded, read_in, entry_in};
 
 use entries::beside::{ENTRY_WORDS, READ, WRITE};
-use line::digits::{Number, read_number};
+use line::digits::read_number;
 
-// The kind that is stored of a line that says no entry.
+// The kind that is stored of a line that says no entry, and all its words.
 pub const BAD: u32 = 2;
+
+pub const BAD_WORDS: [u32; ENTRY_WORDS] = [BAD, 0, 0, 0, 0, 0, 0, 0, 0, 0, 0];
 
 // The most numbers of a line; those of a read of an unwritten bearing.
 const MOST_NUMBERS: usize = 10;
 
 const UNWRITTEN_NUMBERS: usize = 2;
 
-fn bad_words() -> [u32; ENTRY_WORDS]
-    ensures { result ≡ bad_words }
-{
-    let mut words = [0u32; ENTRY_WORDS];
-    words[0] = BAD;
-    words
-}
-
 // The entry of this kind whose line, from its second byte on, is so many numbers.
-fn read_numbers(s: &[u8], kind: u32, count: usize) -> [u32; ENTRY_WORDS]
+fn read_numbers(s: &[u8], kind: u32, count: usize) -> Option<[u32; ENTRY_WORDS]>
     requires { count ≤ most_numbers }
-    ensures { result ≡ stored (kinded kind count (numbers_in count (drop 1 s.now))) }
+    ensures { result ≡ kinded kind count (numbers_in count (drop 1 s.now)) }
 {
     let mut words = [0u32; ENTRY_WORDS];
     words[0] = kind;
     let mut n = 0;
-    let mut i = 1;
-    while i < s.len() {
+    let mut at = 1;
+    while at < s.len() {
         if n == count {
-            return bad_words();
+            return None;
         }
-        if s[i] != b' ' {
-            return bad_words();
+        if s[at] != b' ' {
+            return None;
         }
-        let found = read_number(s, i + 1);
-        let Number::Good { value, next } = found else {
-            return bad_words();
-        };
+        let number = read_number(s, at + 1)?;
         n += 1;
-        words[n] = value;
-        i = next;
+        words[n] = number.value;
+        at = number.next;
     }
     if n != count {
-        return bad_words();
+        return None;
     }
-    words
+    Some(words)
 }
 
 // The line of a read.
-fn read_read(s: &[u8]) -> [u32; ENTRY_WORDS]
-    ensures { result ≡ stored (read_in s.now) }
+fn read_read(s: &[u8]) -> Option<[u32; ENTRY_WORDS]>
+    ensures { result ≡ read_in s.now }
 {
     let n = s.len();
     if n < 3 {
@@ -69,17 +60,16 @@ fn read_read(s: &[u8]) -> [u32; ENTRY_WORDS]
     read_numbers(&s[..n - 2], READ, UNWRITTEN_NUMBERS)
 }
 
-// The eleven words of the entry that a line of any bytes says; of one that says none the kind is BAD.
-pub fn read_line(s: &[u8]) -> [u32; ENTRY_WORDS]
-    ensures { result ≡ stored (entry_in s.now) }
+// The eleven words of the entry that a line of any bytes says, if it says one.
+pub fn read_line(s: &[u8]) -> Option<[u32; ENTRY_WORDS]>
+    ensures { result ≡ entry_in s.now }
 {
     if s.len() == 0 {
-        return bad_words();
+        return None;
     }
-    let letter = s[0];
-    match letter {
+    match s[0] {
         b'W' => read_numbers(s, WRITE, MOST_NUMBERS),
         b'R' => read_read(s),
-        _ => bad_words(),
+        _ => None,
     }
 }

@@ -1,9 +1,8 @@
 // The lines of a history as they arrive: any bytes, in pieces cut anywhere. The line so far and the words of the lines before it are lent.
-ghost use Rattle.std.specs.Prelude.{◌≡◌, ◌+◌, ◌≤◌, length};
-ghost use Rattle.std.proofs.lemmas.List.Edits.{sets};
+ghost use Rattle.std.specs.Prelude.{◌≡◌};
 ghost use Rattle.history.specs.Stream.{Fits, state, ended, fed, through, finished};
 
-use crate::entry::read_line;
+use crate::entry::{BAD_WORDS, read_line};
 use entries::beside::{ENTRY_WORDS, MOST_ENTRIES};
 
 const LINE_FEED: u8 = b'\n';
@@ -21,20 +20,7 @@ pub struct Place {
     pub lines: usize,
 }
 
-// The words are stored from the place `at` on.
-fn put_words(to: &mut [u32], at: usize, words: &[u32])
-    requires { at + length words.now ≤ length to.old }
-    ensures { to.new ≡ sets to.old at words.now }
-{
-    let mut x = 0;
-    while x < words.len() {
-        let place = at + x;
-        to[place] = words[x];
-        x += 1;
-    }
-}
-
-// The line so far has ended.
+// The line so far has ended: the words of its entry are stored after those of the lines before it.
 fn end_line(words: &mut [u32], line: &[u8], kept: usize, lines: usize) -> Place
     requires { Fits words.old line.now kept lines }
     ensures fits { Fits words.new line.now 0 result.lines }
@@ -46,8 +32,9 @@ fn end_line(words: &mut [u32], line: &[u8], kept: usize, lines: usize) -> Place
             lines: MOST_ENTRIES + 1,
         };
     }
-    let entry = read_line(&line[..kept]);
-    put_words(words, lines * ENTRY_WORDS, &entry);
+    let entry = read_line(&line[..kept]).unwrap_or(BAD_WORDS);
+    let at = lines * ENTRY_WORDS;
+    words[at..at + ENTRY_WORDS].copy_from_slice(&entry);
     Place {
         kept: 0,
         lines: lines + 1,
@@ -67,13 +54,10 @@ fn feed_byte(words: &mut [u32], line: &mut [u8], kept: usize, lines: usize, byte
         line[kept] = byte;
         return Place {
             kept: kept + 1,
-            lines: lines,
+            lines,
         };
     }
-    Place {
-        kept: kept,
-        lines: lines,
-    }
+    Place { kept, lines }
 }
 
 // A piece of the input.
@@ -82,19 +66,11 @@ pub fn feed(words: &mut [u32], line: &mut [u8], kept: usize, lines: usize, input
     ensures fits { Fits words.new line.new result.kept result.lines }
     ensures lines_after { state words.new line.new result.kept result.lines ≡ through (state words.old line.old kept lines) input.now }
 {
-    let mut so_far = kept;
-    let mut done = lines;
-    let mut i = 0;
-    while i < input.len() {
-        let place = feed_byte(words, line, so_far, done, input[i]);
-        so_far = place.kept;
-        done = place.lines;
-        i += 1;
+    let mut place = Place { kept, lines };
+    for byte in input {
+        place = feed_byte(words, line, place.kept, place.lines, *byte);
     }
-    Place {
-        kept: so_far,
-        lines: done,
-    }
+    place
 }
 
 // The end of the input: a last line without its line feed counts if not empty. How many lines there are is handed back.

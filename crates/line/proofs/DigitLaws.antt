@@ -7,12 +7,13 @@ use native.Mathlib.Omega.{arith}
 use mathlib.Core.Path.{◌≡◌, sym, ◌∙◌, ap}
 use mathlib.Core.Logic.{⊎_elim}
 use mathlib.Core.List.{List, [], ◌∷◌}
-use mathlib.Core.Bool.{Bool, true, false, ◌&&◌, and-false}
+use mathlib.Core.Bool.{Bool, true, false}
 use lib.Dec.{leb}
 use lib.ListN.{length, get_or, drop, length-drop, drop_of_length-le}
 use lib.Seq.{drop-cons}
-use borrow.Author.Tests.{le-leb, lt-leb}
-use Rattle.loops.proofs.BoolLaws.{decided, and_intro, pick_true, pick_false}
+use Rattle.std.specs.Char.{is_ascii_digit}
+use borrow.Author.Tests.{le-leb, lt-leb, leb-true}
+use Rattle.loops.proofs.BoolLaws.{decided, and_intro, and_left, and_right, pick_true, pick_false}
 use Rattle.line.specs.Number.{is_digit, digit_run, value_from}
 
 pub digit_yes : (b : ℕ) → 48 ≤ b → b < 58 → is_digit b ≡ true
@@ -23,9 +24,14 @@ pub digit_low : (b : ℕ) → b < 48 → is_digit b ≡ false
 unfolding is_digit
 digit_low b p = rw (lt-leb 48 b p)
 
-pub digit_high : (b : ℕ) → 57 < b → is_digit b ≡ false
+pub digit_bounds : (b : ℕ) → is_digit b ≡ true → (48 ≤ b) × (b ≤ 57)
 unfolding is_digit
-digit_high b p = ap (λ (t : Bool). leb 48 b && t) (lt-leb b 57 p) ∙ and-false (leb 48 b)
+digit_bounds b h = (leb-true 48 b (and_left (leb 48 b) (leb b 57) h), leb-true b 57 (and_right (leb 48 b) (leb b 57) h))
+
+-- the library's test, told by what it answered
+pub digit_told : (b : ℕ) {r t : Bool} → r ≡ is_ascii_digit b → r ≡ t → is_digit b ≡ t
+unfolding is_digit
+digit_told b p q = sym p ∙ q
 
 -- at a digit
 pub run_digit : (b : ℕ) (l : List ℕ) → is_digit b ≡ true → digit_run (b ∷ l) ≡ suc (digit_run l)

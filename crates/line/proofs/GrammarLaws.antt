@@ -5,7 +5,7 @@ use native.Mathlib.Omega.{arith}
 use mathlib.Core.Path.{◌≡◌, refl, sym, ◌∙◌, ap, ap₂}
 use mathlib.Core.Logic.{◌⊎◌, inl, inr, ⊎_elim}
 use mathlib.Core.List.{List, [], ◌∷◌, ◌++◌}
-use mathlib.Core.Option.{Option, none, some}
+use Rattle.std.specs.Prelude.{Option, None, Some}
 use mathlib.Core.Bool.{true, false, ◌&&◌}
 use lib.Dec.{leb, eqb}
 use lib.ListN.{length, drop, take-append-drop}
@@ -30,7 +30,7 @@ unfolding spaced digit_run
 spaced_stops [] = refl
 spaced_stops (n ∷ ns) = run_other 32 (decimal n ++ spaced ns) (digit_low 32 (omega arith))
 
-pub numbers_printed : (k : ℕ) (ns : List ℕ) → length ns ≤ k → word_sized ns ≡ true → numbers_in k (spaced ns) ≡ some ns
+pub numbers_printed : (k : ℕ) (ns : List ℕ) → length ns ≤ k → word_sized ns ≡ true → numbers_in k (spaced ns) ≡ Some ns
 unfolding spaced word_sized before
 numbers_printed k [] h r = numbers_nothing k
 numbers_printed zero (n ∷ ns) h r = absurd (omega arith)
@@ -48,7 +48,7 @@ pub record Prints (k : ℕ) (l : List ℕ) (ns : List ℕ) : Type 0 where
   pub not_over : length ns ≤ k
   pub in_range : word_sized ns ≡ true
 
-prints_none : (k : ℕ) (ns : List ℕ) → some [] ≡ some ns → Prints k [] ns
+prints_none : (k : ℕ) (ns : List ℕ) → Some [] ≡ Some ns → Prints k [] ns
 unfolding spaced word_sized
 prints_none k [] e = record { bytes = refl; not_over = omega arith; in_range = refl }
 prints_none k (n ∷ ns) e = absurd (let z : ◌≡◌ {A = ℕ} 0 1 = cc in omega arith)
@@ -56,17 +56,17 @@ prints_none k (n ∷ ns) e = absurd (let z : ◌≡◌ {A = ℕ} 0 1 = cc in ome
 prints_more : (k b : ℕ) (l ns : List ℕ) (m : Option (List ℕ))
     → b ≡ 32
     → is_number l ≡ true
-    → ((ns' : List ℕ) → m ≡ some ns' → Prints k (drop (digit_run l) l) ns')
-    → before (value_from 0 l) m ≡ some ns
+    → ((ns' : List ℕ) → m ≡ Some ns' → Prints k (drop (digit_run l) l) ns')
+    → before (value_from 0 l) m ≡ Some ns
     → Prints (suc k) (b ∷ l) ns
 unfolding before spaced word_sized
-prints_more k b l ns none p q f e = absurd (let z : ◌≡◌ {A = ℕ} 0 1 = cc in omega arith)
-prints_more k b l [] (some ns') p q f e = absurd (let z : ◌≡◌ {A = ℕ} 0 1 = cc in omega arith)
-prints_more k b l (n ∷ ns) (some ns') p q f e =
+prints_more k b l ns None p q f e = absurd (let z : ◌≡◌ {A = ℕ} 0 1 = cc in omega arith)
+prints_more k b l [] (Some ns') p q f e = absurd (let z : ◌≡◌ {A = ℕ} 0 1 = cc in omega arith)
+prints_more k b l (n ∷ ns) (Some ns') p q f e =
     let numeral = number_parts l q in
     let v : n ≡ value_from 0 l = cc in
     let rest : ns' ≡ ns = cc in
-    let h = f ns (ap some rest) in
+    let h = f ns (ap Some rest) in
     record {
       bytes =
           ap₂ (λ (x : ℕ) (y : List ℕ). x ∷ y) p
@@ -75,7 +75,7 @@ prints_more k b l (n ∷ ns) (some ns') p q f e =
       in_range = and_intro (le-leb n 4_294_967_295 (omega (arith, numeral.small))) h.in_range;
     }
 
-pub numbers_read : (k : ℕ) (l ns : List ℕ) → numbers_in k l ≡ some ns → Prints k l ns
+pub numbers_read : (k : ℕ) (l ns : List ℕ) → numbers_in k l ≡ Some ns → Prints k l ns
 unfolding numbers_in
 numbers_read zero [] ns e = prints_none zero ns e
 numbers_read zero (b ∷ l) ns e = absurd (let z : ◌≡◌ {A = ℕ} 0 1 = cc in omega arith)
@@ -101,7 +101,7 @@ letter_or_none b =
     ⊎_elim (λ (p : b ≡ 76). inl (event.List, p)) (λ (l : b ≡ 76 → ⊥). inr (no_letter b s r w k t f l))
     (eq_or_ne b 76)) (eq_or_ne b 70)) (eq_or_ne b 84)) (eq_or_ne b 75)) (eq_or_ne b 87)) (eq_or_ne b 82)) (eq_or_ne b 83)
 
-pub event_back : (b : ℕ) (e : Event) → event_of b ≡ some e → b ≡ letter e
+pub event_back : (b : ℕ) (e : Event) → event_of b ≡ Some e → b ≡ letter e
 event_back b e h =
     ⊎_elim
     (λ (w : (e : Event) × (b ≡ letter e)).

@@ -3,7 +3,7 @@
 use Prim.Native.Nat.{ℕ, ◌≤◌, ◌<◌}
 use mathlib.Core.Path.{◌≡◌, refl, sym, ◌∙◌, ap}
 use mathlib.Core.List.{List, [], ◌∷◌}
-use mathlib.Core.Option.{Option, none, some}
+use Rattle.std.specs.Prelude.{Option, None, Some}
 use lib.ListN.{length, get_or, take, drop, length-take}
 use native.Mathlib.Omega.{arith}
 use borrow.Author.Tests.{le-leb, lt-leb, ne_eqb}
@@ -14,7 +14,7 @@ use Rattle.line.specs.Reading.{bad, event_of, numbers_in, counted, named, headed
 use Rattle.request.specs.declared.ask.Event.{Event}
 use Rattle.request.specs.declared.ask.Event.TheVariants as event
 
-pub event_letter : (e : Event) → event_of (letter e) ≡ some e
+pub event_letter : (e : Event) → event_of (letter e) ≡ Some e
 unfolding event_of pick
 event_letter event.Setup = refl
 event_letter event.Read = refl
@@ -25,7 +25,7 @@ event_letter event.Refresh = refl
 event_letter event.List = refl
 
 -- a byte that is no event's letter names none
-pub event_none : (b : ℕ) → ((e : Event) → b ≡ letter e → ⊥) → event_of b ≡ none
+pub event_none : (b : ℕ) → ((e : Event) → b ≡ letter e → ⊥) → event_of b ≡ None
 unfolding event_of
 event_none b h =
     pick_false _ _ (ne_eqb b 83 (h event.Setup))

@@ -7,13 +7,15 @@ use mathlib.Core.Path.{◌≡◌, sym, ◌∙◌, ap, ap₂}
 use mathlib.Core.Logic.{◌⊎◌, ⊎_elim}
 use mathlib.Core.List.{List}
 use mathlib.Core.Bool.{Bool, true, false, ◌&&◌, not, and-false}
+use Rattle.std.specs.Prelude.{Some, None}
 use lib.Dec.{leb, ltb}
 use lib.ListN.{get_or, drop}
 use lib.Seq.{get_or-drop}
+use Rattle.std.proofs.lemmas.Option.{none-some, same_Some}
 use borrow.Author.Tests.{le-leb, lt-ltb, le-ltb, eq-eqb, ne_eqb, leb-true}
 use Rattle.loops.proofs.BoolLaws.{failed, passed, both_ways, and_intro, and_left, and_right, not_passed, not_failed, pick_true, pick_false}
 use Rattle.line.specs.Number.{digit_run, value_from, spare_zero, is_number, number_from, most_digits, most_number}
-use Rattle.line.specs.declared.digits.Number.TheVariants.{Bad, Good}
+use Rattle.line.specs.declared.digits.Number.{Number}
 
 -- what a number is, part by part
 pub record Numeral (l : List ℕ) : Type 0 where
@@ -58,25 +60,28 @@ pub spare_zero_law : (l : List ℕ) → 1 < digit_run l → get_or l 0 0 ≡ 48 
 unfolding spare_zero
 spare_zero_law l h e = and_intro (lt-ltb _ _ h) (eq-eqb _ _ e)
 
+abbrev standing : ℕ → ℕ → Number
+standing v next = record { value = v; next = next }
+
 module _ (s : List ℕ) (at : ℕ) where
   -- the first byte from here on
   pub first_here : get_or (drop at s) 0 0 ≡ get_or s at 0
   first_here = get_or-drop at s 0 0 ∙ ap (λ (i : ℕ). get_or s i 0) (add-zero at)
 
-  no_number : (Numeral (drop at s) → ⊥) → Bad ≡ number_from s at
+  no_number : (Numeral (drop at s) → ⊥) → None ≡ number_from s at
   unfolding number_from
   no_number h = sym (pick_false _ _ (not_number (drop at s) h))
 
-  pub found_no_digit : {n : ℕ} → n ≡ digit_run (drop at s) → n ≡ 0 → Bad ≡ number_from s at
+  pub found_no_digit : {n : ℕ} → n ≡ digit_run (drop at s) → n ≡ 0 → None ≡ number_from s at
   found_no_digit e z = no_number λ k. omega (arith, k.some_digit)
 
-  pub found_too_long : {n : ℕ} → n ≡ digit_run (drop at s) → 10 < n → Bad ≡ number_from s at
+  pub found_too_long : {n : ℕ} → n ≡ digit_run (drop at s) → 10 < n → None ≡ number_from s at
   found_too_long e l = no_number λ k. omega (arith, k.few_digits)
 
-  pub found_spare_zero : {n : ℕ} → n ≡ digit_run (drop at s) → 1 < n → get_or s at 0 ≡ 48 → Bad ≡ number_from s at
+  pub found_spare_zero : {n : ℕ} → n ≡ digit_run (drop at s) → 1 < n → get_or s at 0 ≡ 48 → None ≡ number_from s at
   found_spare_zero e l z = no_number λ k. both_ways (spare_zero_law (drop at s) (rw e at l) (first_here ∙ z)) k.no_spare
 
-  pub found_too_large : {v : ℕ} → v ≡ value_from 0 (drop at s) → 4_294_967_295 < v → Bad ≡ number_from s at
+  pub found_too_large : {v : ℕ} → v ≡ value_from 0 (drop at s) → 4_294_967_295 < v → None ≡ number_from s at
   found_too_large e l = no_number λ k. omega (arith, k.small)
 
   pub found_number : {n v : ℕ}
@@ -86,10 +91,10 @@ module _ (s : List ℕ) (at : ℕ) where
       → n ≤ 10
       → (n ≤ 1) ⊎ (get_or s at 0 ≡ 48 → ⊥)
       → v ≤ 4_294_967_295
-      → Good v (at + n) ≡ number_from s at
+      → Some (record { value = v; next = at + n }) ≡ number_from s at
   unfolding number_from
   found_number {n} {v} e f p q z l =
-      ap₂ (λ (x y : ℕ). Good x (at + y)) f e
+      ap₂ (λ (x y : ℕ). Some (standing x (at + y))) f e
       ∙ sym
       (pick_true _ _
       (number_whole
@@ -106,17 +111,17 @@ module _ (s : List ℕ) (at : ℕ) where
       })))
 
   -- what the finding says, by its two cases
-  pub missed : number_from s at ≡ Bad → is_number (drop at s) ≡ false
-  unfolding number_from
-  missed e =
-      let number = Good (value_from 0 (drop at s)) (at + digit_run (drop at s)) in
-      failed (is_number (drop at s)) λ t. let z : ◌≡◌ {A = ℕ} 0 1 = cc (e, pick_true number Bad t) in omega arith
+  number : Number
+  number = standing (value_from 0 (drop at s)) (at + digit_run (drop at s))
 
-  pub found : {v next : ℕ} → number_from s at ≡ Good v next → (is_number (drop at s) ≡ true) × (v ≡ value_from 0 (drop at s)) × (next ≡ at + digit_run (drop at s))
-  unfolding number_from
-  found e =
-      let number = Good (value_from 0 (drop at s)) (at + digit_run (drop at s)) in
-      let none : is_number (drop at s) ≡ false → ⊥ = λ t. let z : ◌≡◌ {A = ℕ} 0 1 = cc (e, pick_false number Bad t) in omega arith in
-      let is = passed (is_number (drop at s)) none in
-      let f = pick_true number Bad is in
-      (is, cc, cc)
+  pub missed : number_from s at ≡ None → is_number (drop at s) ≡ false
+  unfolding number_from number
+  missed e = failed (is_number (drop at s)) λ t. none-some number (sym e ∙ pick_true (Some number) None t)
+
+  pub found : {n : Number} → number_from s at ≡ Some n
+      → (is_number (drop at s) ≡ true) × (n.value ≡ value_from 0 (drop at s)) × (n.next ≡ at + digit_run (drop at s))
+  unfolding number_from number
+  found {n} e =
+      let is = passed (is_number (drop at s)) λ t. none-some n (sym (pick_false (Some number) None t) ∙ e) in
+      let same : n ≡ number = same_Some n number (sym e ∙ pick_true (Some number) None is) in
+      (is, ap (λ (x : Number). x.value) same, ap (λ (x : Number). x.next) same)

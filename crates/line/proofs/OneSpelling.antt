@@ -8,18 +8,12 @@ use mathlib.Core.Path.{◌≡◌, sym, ◌∙◌, ap}
 use mathlib.Core.Logic.{⊎_elim}
 use mathlib.Core.List.{List, [], ◌∷◌, ◌++◌, append_assoc, append-nil}
 use mathlib.Core.Bool.{true, false}
-use lib.Dec.{leb}
 use lib.ListN.{take}
-use borrow.Author.Tests.{leb-true}
-use Rattle.loops.proofs.BoolLaws.{decided, both_ways, and_left, and_right, le_or_lt}
+use Rattle.loops.proofs.BoolLaws.{decided, both_ways, le_or_lt}
 use Rattle.line.specs.Number.{decimal, is_digit, digit_run, value_from}
-use Rattle.line.proofs.DigitLaws.{run_digit, run_other, value_digit, value_other}
+use Rattle.line.proofs.DigitLaws.{digit_bounds, run_digit, run_other, value_digit, value_other}
 use Rattle.line.proofs.NumberLaws.{Numeral, spare_zero_law}
 use Rattle.line.proofs.SpellingLaws.{decimal_one, decimal_next, value_stopped}
-
-pub digit_bounds : (b : ℕ) → is_digit b ≡ true → (48 ≤ b) × (b ≤ 57)
-unfolding is_digit
-digit_bounds b h = (leb-true 48 b (and_left (leb 48 b) (leb b 57) h), leb-true b 57 (and_right (leb 48 b) (leb b 57) h))
 
 -- reading on never makes a number smaller
 pub value_up : (v : ℕ) (l : List ℕ) → v ≤ value_from v l

@@ -1,6 +1,6 @@
 -- The laws of printing: bytes after bytes, in the order of the text, and the room that each part has.
 -- Assumes nothing.
-use Prim.Native.Nat.{ℕ, suc, ◌+◌, ◌*◌, ◌/◌, ◌%◌, ◌^◌, ◌≤◌, ◌<◌}
+use Prim.Native.Nat.{ℕ, suc, ◌+◌, ◌-◌, ◌*◌, ◌/◌, ◌%◌, ◌^◌, ◌≤◌, ◌<◌}
 use native.Mathlib.Numerals.{add-one}
 use native.Mathlib.Nat.{add-zero, le_refl}
 use native.Mathlib.Omega.{arith}
@@ -8,7 +8,8 @@ use mathlib.Core.Path.{◌≡◌, refl, sym, ◌∙◌, ap, ap₂}
 use mathlib.Core.List.{List, [], ◌∷◌, ◌++◌, append_assoc, append-nil}
 use mathlib.Core.Bool.{Bool}
 use lib.ListN.{length, get_or, take, drop, set, length-append, take-append-drop}
-use lib.Seq.{sets, sets-eq, length-sets, take-suc, take-take, take_all, take-append-le}
+use borrow.Rule.Slice.PartMut.{put_mid}
+use lib.Seq.{sets, drop-drop, sets-eq, length-sets, take-suc, take-take, take_all, take-append-le}
 use Rattle.line.specs.Number.{decimal}
 use Rattle.line.specs.Grammar.{spaced}
 use Rattle.paper.specs.declared.answer.Payload.{Payload}
@@ -21,6 +22,12 @@ sets_append [] ys o at = ap (λ (i : ℕ). sets o i ys) (sym (add-zero at))
 sets_append (x ∷ xs) ys o at =
     sets_append xs ys (set o at x) (suc at)
     ∙ ap (λ (i : ℕ). sets (sets o at (x ∷ xs)) i ys) (omega arith)
+
+-- words or bytes copied onto their part are stored one after the other
+pub sets_copied : (o : List ℕ) (at k : ℕ) {u v : List ℕ} → u ≡ v → length v ≡ k → at + k ≤ length o → put_mid at (at + k - at) o u ≡ sets o at v
+sets_copied o at k {u} {v} e n h =
+    let size : at + k - at ≡ k = omega arith in
+    rw (e, size, drop-drop k at o, ← n, ← append_assoc (take at o) v (drop (at + length v) o)) (sym (sets-eq v o at (omega (arith, n, h))))
 
 -- one byte
 pub wrote_byte : (o : List ℕ) (at b : ℕ) → Wrote o at (b ∷ []) (set o at b) (at + 1)

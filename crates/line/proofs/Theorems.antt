@@ -3,14 +3,15 @@
 -- Assumes nothing.
 use Prim.Native.Nat.{ℕ, ◌+◌, ◌-◌, ◌≤◌, ◌<◌}
 use native.Mathlib.Omega.{arith}
-use mathlib.Core.Path.{◌≡◌, refl, sym, ◌∙◌, ap}
+use mathlib.Core.Path.{◌≡◌, refl, sym, ◌∙◌, ap, subst}
 use mathlib.Core.Logic.{◌↔◌, ⊎_elim}
 use mathlib.Core.List.{List, [], ◌∷◌, ◌++◌, append-nil}
-use mathlib.Core.Option.{Option, none, some}
+use Rattle.std.specs.Prelude.{Option, None, Some}
 use mathlib.Core.Bool.{true, false}
 use lib.Dec.{leb}
 use lib.ListN.{length, get_or, take, drop, replicate, length-drop}
 use lib.Seq.{sets, sets-eq, take-length, take-append_seam, take_at, drop-append-le, get_or-take}
+use Rattle.std.proofs.lemmas.Option.{none-some, same_Some}
 use borrow.Author.Tests.{le-leb, leb-true}
 use Rattle.loops.proofs.BoolLaws.{decided, le_or_lt, pick_true, pick_false}
 use Rattle.line.specs.Number.{decimal, digit_run, value_from, is_number, most_number, Spells}
@@ -19,7 +20,7 @@ use Rattle.line.specs.Reading.{Reading, bad, good, event_of, numbers_in, counted
 use Rattle.line.specs.Printing.{Room, Wrote}
 use Rattle.request.specs.declared.ask.Event.{Event}
 use Rattle.request.specs.declared.ask.Event.TheVariants as event
-use Rattle.line.specs.declared.reader.Said.TheVariants.{Names}
+use Rattle.line.specs.declared.reader.Line.{Line}
 use Rattle.line.proofs.NumberLaws.{number_parts}
 use Rattle.line.proofs.LineLaws.{reading_long, reading_short, reading_event}
 use Rattle.line.proofs.SpellingLaws.{decimal_run, decimal_value, decimal_is_number}
@@ -72,8 +73,8 @@ counted_says : (b : ℕ) (l : List ℕ) (e' e : Event) (ns : List ℕ) (m : Opti
     → counted e' (least e') m ≡ good e ns
     → InGrammar (b ∷ l) e ns
 unfolding counted line_for
-counted_says b l e' e ns none short p q h = absurd (never e ns h)
-counted_says b l e' e ns (some ns') short p q h =
+counted_says b l e' e ns None short p q h = absurd (never e ns h)
+counted_says b l e' e ns (Some ns') short p q h =
     ⊎_elim
     (λ (t : leb (least e') (length ns') ≡ true).
     let same : good e' ns' ≡ good e ns = sym (pick_true _ _ t) ∙ h in
@@ -98,8 +99,8 @@ named_says : (b : ℕ) (l : List ℕ) (o : Option Event) (e : Event) (ns : List 
     → named o l ≡ good e ns
     → InGrammar (b ∷ l) e ns
 unfolding named
-named_says b l none e ns short p h = absurd (never e ns h)
-named_says b l (some e') e ns short p h = counted_says b l e' e ns (numbers_in (most e') l) short (event_back b e' p) refl h
+named_says b l None e ns short p h = absurd (never e ns h)
+named_says b l (Some e') e ns short p h = counted_says b l e' e ns (numbers_in (most e') l) short (event_back b e' p) refl h
 
 headed_says : (s : List ℕ) (e : Event) (ns : List ℕ) → length s ≤ most_bytes → headed s ≡ good e ns → InGrammar s e ns
 unfolding headed
@@ -175,23 +176,22 @@ most_fits event.Take = omega arith
 most_fits event.Refresh = omega arith
 most_fits event.List = omega arith
 
-line_says : (s : List ℕ) (e : Event) (r : Reading) → reading s ≡ r → (line_of r).said ≡ Names e → InGrammar s e (take (line_of r).count (line_of r).numbers)
+line_says : (s : List ℕ) (x : Line) (r : Reading) → reading s ≡ r → line_of r ≡ Some x → InGrammar s x.event (take x.count x.numbers)
 unfolding line_of
-line_says s e bad p h = absurd (let z : ◌≡◌ {A = ℕ} 0 1 = cc in omega arith)
-line_says s e (good e' ns) p h =
-    let event : e' ≡ e = cc in
-    let said = read_says s e' ns p in
-    let fits = most_fits e' in
-    rw (numbers_stored ns (omega (arith, said.not_over)), ← event) said
+line_says s x bad p h = absurd (none-some x h)
+line_says s x (good e ns) p h =
+    let said = read_says s e ns p in
+    let fits = most_fits e in
+    subst (λ (y : Line). InGrammar s y.event (take y.count y.numbers)) (same_Some _ x h) (rw (numbers_stored ns (omega (arith, said.not_over))) said)
 
--- a line that the struct says names an event says that event with the numbers that count
-pub answer_says : (s : List ℕ) (e : Event) → (line_of (reading s)).said ≡ Names e → InGrammar s e (take (line_of (reading s)).count (line_of (reading s)).numbers)
-answer_says s e h = line_says s e (reading s) refl h
+-- a line that the reader hands back says its event with the numbers that count
+pub answer_says : (s : List ℕ) (x : Line) → line_of (reading s) ≡ Some x → InGrammar s x.event (take x.count x.numbers)
+answer_says s x h = line_says s x (reading s) refl h
 
--- and one in the grammar is answered so
-pub says_answer : (s : List ℕ) (e : Event) (ns : List ℕ) → InGrammar s e ns → (line_of (reading s)).said ≡ Names e
+-- and one in the grammar is handed back so
+pub says_answer : (s : List ℕ) (e : Event) (ns : List ℕ) → InGrammar s e ns → (x : Line) × (line_of (reading s) ≡ Some x) × (x.event ≡ e)
 unfolding line_of
-says_answer s e ns h = rw (says_read s e ns h)
+says_answer s e ns h = (record { event = e; numbers = sets (replicate most_numbers 0) 0 ns; count = length ns }, ap line_of (says_read s e ns h), refl)
 
 -- ---- what is printed
 

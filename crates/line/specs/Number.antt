@@ -1,9 +1,8 @@
 -- Decimal numbers to the byte: how a number is spelled, and what the digits at the beginning of a text say.
 -- Assumes nothing.
-use Rattle.std.specs.Prelude.{ℕ, zero, suc, ◌+◌, ◌*◌, ◌-◌, ◌/◌, ◌%◌, ◌≡◌, List, [], ◌∷◌, ◌++◌, Bool, true, ◌&&◌, not, leb, ltb, eqb, length, get_or, drop}
+use Rattle.std.specs.Prelude.{ℕ, zero, suc, ◌+◌, ◌*◌, ◌-◌, ◌/◌, ◌%◌, ◌≡◌, List, [], ◌∷◌, ◌++◌, Bool, true, ◌&&◌, not, leb, ltb, eqb, length, get_or, drop, Option, None, Some}
 use Rattle.loops.specs.Loops.{pick}
 use Rattle.line.specs.declared.digits.Number.{Number}
-use Rattle.line.specs.declared.digits.Number.TheVariants.{Bad, Good}
 
 -- the byte of the digit 0, from which the others go on
 abbrev pub zero_byte : ℕ
@@ -49,8 +48,8 @@ unfoldable pub is_number : List ℕ → Bool
 is_number l = leb 1 (digit_run l) && (leb (digit_run l) most_digits && (not (spare_zero l) && leb (value_from 0 l) most_number))
 
 -- what stands in the text s at the place at: a number, with the place after it, or none
-unfoldable pub number_from : List ℕ → ℕ → Number
-number_from s at = pick (is_number (drop at s)) (Good (value_from 0 (drop at s)) (at + digit_run (drop at s))) Bad
+unfoldable pub number_from : List ℕ → ℕ → Option Number
+number_from s at = pick (is_number (drop at s)) (Some (record { value = value_from 0 (drop at s); next = at + digit_run (drop at s) })) None
 
 -- the text ds is a spelling of n: nothing but digits, which are a number and say n
 pub record Spells (ds : List ℕ) (n : ℕ) : Type 0 where

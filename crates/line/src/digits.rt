@@ -6,30 +6,23 @@ const MOST_DIGITS: usize = 10;
 
 const MOST_NUMBER: u64 = 4_294_967_295;
 
-// What stands at a place of a text: a number, with the place after it, or none.
+// A number that stands in a text, with the place after it.
 #[derive(Clone, Copy)]
-pub enum Number {
-    Bad,
-    Good { value: u32, next: usize },
+pub struct Number {
+    pub value: u32,
+    pub next: usize,
 }
 
 // How many digits stand from `at` on.
 fn digits_at(s: &[u8], at: usize) -> usize
     ensures { result ≡ digit_run (drop at s.now) }
 {
-    let mut i = at;
-    while i < s.len() {
-        let b = s[i];
-        match b {
-            b'0'..=b'9' => {
-                i += 1;
-            }
-            _ => {
-                return i - at;
-            }
+    for i in at..s.len() {
+        if !s[i].is_ascii_digit() {
+            return i - at;
         }
     }
-    i - at
+    s.len().saturating_sub(at)
 }
 
 // The number that the digits from `at` on spell, of which there are at most ten.
@@ -38,44 +31,38 @@ fn value_at(s: &[u8], at: usize) -> u64
     ensures { result ≡ value_from 0 (drop at s.now) }
 {
     let mut v: u64 = 0;
-    let mut i = at;
-    while i < s.len() {
+    for i in at..s.len() {
         let b = s[i];
-        match b {
-            b'0'..=b'9' => {
-                v = v * 10 + (b - b'0') as u64;
-                i += 1;
-            }
-            _ => {
-                return v;
-            }
+        if !b.is_ascii_digit() {
+            return v;
         }
+        v = v * 10 + (b - b'0') as u64;
     }
     v
 }
 
-// The number that stands at `at`, with the place after it.
-pub fn read_number(s: &[u8], at: usize) -> Number
+// The number that stands at `at`, if one does.
+pub fn read_number(s: &[u8], at: usize) -> Option<Number>
     ensures { result ≡ number_from s.now at }
 {
     let n = digits_at(s, at);
     if n == 0 {
-        return Number::Bad;
+        return None;
     }
     if MOST_DIGITS < n {
-        return Number::Bad;
+        return None;
     }
     if 1 < n {
         if s[at] == b'0' {
-            return Number::Bad;
+            return None;
         }
     }
     let v = value_at(s, at);
     if MOST_NUMBER < v {
-        return Number::Bad;
+        return None;
     }
-    Number::Good {
+    Some(Number {
         value: v as u32,
         next: at + n,
-    }
+    })
 }

@@ -33,10 +33,8 @@ pub fn print_numbers(out: &mut [u8], at: usize, numbers: &[u32], count: usize) -
     ensures { Wrote out.old at (spaced (take count numbers.now)) out.new result }
 {
     let mut next = at;
-    let mut i = 0;
-    while i < count {
-        next = print_spaced(out, next, numbers[i]);
-        i += 1;
+    for number in &numbers[..count] {
+        next = print_spaced(out, next, *number);
     }
     next
 }

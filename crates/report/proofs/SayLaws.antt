@@ -2,12 +2,12 @@
 -- Assumes nothing.
 use Prim.Native.Nat.{ℕ, ◌+◌, ◌≤◌}
 use native.Mathlib.Omega.{arith}
-use mathlib.Core.Path.{◌≡◌, sym, ◌∙◌, ap}
-use mathlib.Core.List.{List, [], ◌∷◌, ◌++◌, append_assoc}
+use mathlib.Core.Path.{◌≡◌}
+use mathlib.Core.List.{List, [], ◌∷◌, ◌++◌}
 use lib.ListN.{length, length-append}
 use Rattle.line.specs.Number.{decimal}
-use Rattle.line.specs.Printing.{Room, Wrote}
-use Rattle.line.proofs.PrintLaws.{decimal_length, wrote_then, wrote_byte, wrote_same}
+use Rattle.line.specs.Printing.{Room}
+use Rattle.line.proofs.PrintLaws.{decimal_length}
 use Rattle.auditor.specs.declared.finding.Finding.{Finding}
 use Rattle.auditor.specs.declared.finding.Finding.TheVariants.{TooMany, BadLength, Refused, Circle, Low, Causal}
 use Rattle.report.specs.Report.{ended, numbered, spoken_finding, spoken}

@@ -6,7 +6,7 @@ use native.Mathlib.Omega.{arith}
 use mathlib.Core.Path.{◌≡◌, refl, sym, ◌∙◌, ap, ap₂, subst, subst₂}
 use mathlib.Core.Logic.{⊎_elim}
 use mathlib.Core.List.{List, [], ◌∷◌, ◌++◌}
-use mathlib.Core.Option.{Option, none, some}
+use Rattle.std.specs.Prelude.{Option, None, Some}
 use lib.ListN.{length, get_or, take, length-append, get_or-append}
 use lib.Seq.{get_or-append-add, get_or-take, take_at}
 use Rattle.line.specs.Printing.{Wrote}
@@ -25,7 +25,7 @@ use Rattle.history.proofs.Accepted.{read_says, stored_length}
 use Rattle.history.proofs.Whole.{read_few, read_many}
 use Rattle.report.specs.Report.{Audited, found, Told, Reported, spoken, Output, Concluded}
 use Rattle.report.specs.declared.report.Said.{Said}
-use Rattle.report.specs.declared.report.Said.TheVariants.{BadLine, Found}
+use Rattle.report.specs.declared.report.Said.TheVariants.{Found}
 use Rattle.report.proofs.SayLaws.{spoken_length}
 
 -- ---- the kind that is stored of a line
@@ -44,15 +44,15 @@ says_kind (a_write e r) k = omega arith
 says_kind (a_read e r) k = omega arith
 says_kind (an_unwritten r) k = omega arith
 
-kind_bad : (s : List ℕ) → get_or (stored (entry_in s)) 0 0 ≡ 2 → entry_in s ≡ none
+kind_bad : (s : List ℕ) → get_or (stored (entry_in s)) 0 0 ≡ 2 → entry_in s ≡ None
 unfolding stored
 kind_bad s = go (entry_in s) refl
   where
-    go : (m : Option (List ℕ)) → entry_in s ≡ m → get_or (stored m) 0 0 ≡ 2 → m ≡ none
-    go none e k = refl
-    go (some ws) e k = absurd (says_kind (read_says s ws e) k)
+    go : (m : Option (List ℕ)) → entry_in s ≡ m → get_or (stored m) 0 0 ≡ 2 → m ≡ None
+    go None e k = refl
+    go (Some ws) e k = absurd (says_kind (read_says s ws e) k)
 
-bad_kind_law : (s : List ℕ) → entry_in s ≡ none → get_or (stored (entry_in s)) 0 0 ≡ 2
+bad_kind_law : (s : List ℕ) → entry_in s ≡ None → get_or (stored (entry_in s)) 0 0 ≡ 2
 bad_kind_law s e = ap (λ (m : Option (List ℕ)). get_or (stored m) 0 0) e ∙ unfold stored in refl
 
 -- ---- few lines: the words stored are those of the lines

@@ -1,7 +1,6 @@
 -- What is said of the lines of a history, to the byte.
 -- Assumes nothing.
-use Rattle.std.specs.Prelude.{ℕ, ◌*◌, ◌≤◌, ◌<◌, ◌≡◌, List, [], ◌∷◌, ◌++◌, length, get_or, take}
-use Rattle.std.proofs.Math.Option.{none}
+use Rattle.std.specs.Prelude.{ℕ, ◌*◌, ◌≤◌, ◌<◌, ◌≡◌, List, [], ◌∷◌, ◌++◌, length, get_or, take, None}
 use Rattle.line.specs.Number.{decimal}
 use Rattle.entries.specs.Entries.{entry_words, most_entries, kind}
 use Rattle.auditor.specs.Verdict.{If, Names, Verdict}
@@ -19,7 +18,7 @@ pub data Audited (h : List ℕ) : Said → Type 0 where
 -- what is said of the lines ls: more than 256 are too many, before all else; then the first bad line is told; then what the auditor finds in the
 -- entries that they say
 abbrev pub Told : List (List ℕ) → Said → Type 0
-Told ls = If (most_entries < length ls) (Found TooMany) (Names (length ls) (λ i. entry_in (get_or ls i []) ≡ none) BadLine (Audited (words_of ls)))
+Told ls = If (most_entries < length ls) (Found TooMany) (Names (length ls) (λ i. entry_in (get_or ls i []) ≡ None) BadLine (Audited (words_of ls)))
 
 -- the kind that is stored of a bad line
 abbrev pub bad_kind : ℕ

@@ -22,14 +22,12 @@ fn first_bad(words: &[u32], lines: usize) -> usize
     requires { lines * entry_words ≤ length words.now }
     ensures { Search lines (λ i. kind words.now i ≡ bad_kind) result }
 {
-    let mut i = 0;
-    while i < lines {
+    for i in 0..lines {
         if words[i * ENTRY_WORDS] == BAD {
             return i;
         }
-        i += 1;
     }
-    i
+    lines
 }
 
 // What is to be said of so many lines, the words of which were stored.

@@ -15,13 +15,9 @@ fn print_text(out: &mut [u8], at: usize, text: &[u8]) -> usize
     requires { Room out.old at text.now }
     ensures { Wrote out.old at text.now out.new result }
 {
-    let mut x = 0;
-    while x < text.len() {
-        let place = at + x;
-        out[place] = text[x];
-        x += 1;
-    }
-    at + x
+    let next = at + text.len();
+    out[at..next].copy_from_slice(text);
+    next
 }
 
 // A text and the end of the line.

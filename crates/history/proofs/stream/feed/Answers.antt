@@ -1,25 +1,22 @@
 -- `history::stream::feed` meets its contract. The loop's invariant: what is left of the piece makes the whole.
 -- Assumes nothing.
-use Prim.Native.Nat.{◌-◌}
 use mathlib.Core.Path.{refl, sym, ◌∙◌}
-use borrow.Author.Rules.{rules}
 use Rattle.history.proofs.StreamLaws.{through_next, through_over}
 use Rattle.history.proofs.stream.feed.Goals as goal
 
-pub loop-i-init : goal.loop-i-init
-loop-i-init c = (search rules, c.requires, refl)
+pub loop-byte-init : goal.loop-byte-init
+loop-byte-init c = (c.requires, refl)
 
 pub feed_byte-place-requires : goal.feed_byte-place-requires
-feed_byte-place-requires c = c.loop-i.invariant.1
+feed_byte-place-requires c = c.loop-byte.invariant.0
 
-pub loop-i-preserved : goal.loop-i-preserved
-loop-i-preserved c = (
-  search rules,
+pub loop-byte-preserved : goal.loop-byte-preserved
+loop-byte-preserved c = (
   c.feed_byte-place.ensures.fits,
   through_next _ _ _
-      c.loop-i-test.true c.feed_byte-place.ensures.lines_after
-      ∙ c.loop-i.invariant.2,
+      c.loop-byte-test.true c.feed_byte-place.ensures.lines_after
+      ∙ c.loop-byte.invariant.1,
 )
 
 pub returns : goal.returns
-returns c = record { fits = c.loop-i.invariant.1; lines_after = sym (through_over _ _ _ c.loop-i-test.false) ∙ c.loop-i.invariant.2 }
+returns c = record { fits = c.loop-byte.invariant.0; lines_after = sym (through_over _ _ _ c.loop-byte-test.false) ∙ c.loop-byte.invariant.1 }

@@ -1,7 +1,6 @@
 -- `line::digits::read_number_law` meets its contract: one law for each test that it makes.
 -- Assumes nothing.
 use native.Mathlib.Omega.{arith}
-use mathlib.Core.Logic.{inl, inr}
 use borrow.Author.Rules.{rules}
 use Rattle.line.proofs.DigitLaws.{run_inside}
 use Rattle.line.proofs.NumberLaws.{found_no_digit, found_too_long, found_spare_zero, found_too_large, found_number}

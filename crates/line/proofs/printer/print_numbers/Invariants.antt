@@ -1,13 +1,9 @@
 -- What the loop keeps, and what falls. Answers.antt has the idea.
 -- Assumes nothing.
-use Prim.Native.Nat.{◌≤◌, ◌-◌}
 use lib.ListN.{take}
 use Rattle.line.specs.Grammar.{spaced}
 use Rattle.line.specs.Printing.{Wrote}
 use Rattle.line.proofs.printer.print_numbers.Given as goal
 
-abbrev pub invariant-loop-i : goal.invariant-loop-i
-invariant-loop-i l = (l.i ≤ l.count) × Wrote l.initial.out l.at (spaced (take l.i l.numbers)) l.out l.next
-
-abbrev pub decreases-loop-i : goal.decreases-loop-i
-decreases-loop-i l = l.count - l.i
+abbrev pub invariant-loop-number : goal.invariant-loop-number
+invariant-loop-number l = Wrote l.initial.out l.at (spaced (take l.number-index l.numbers)) l.out l.next

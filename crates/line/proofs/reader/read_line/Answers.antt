@@ -3,6 +3,7 @@
 use Prim.Native.Nat.{ℕ, ◌≤◌}
 use mathlib.Core.Path.{◌≡◌, sym, ◌∙◌, ap}
 use mathlib.Core.List.{List}
+use Rattle.std.specs.Prelude.{Option}
 use lib.ListN.{length, get_or, drop}
 use Rattle.line.specs.Grammar.{letter, least, most}
 use Rattle.line.specs.Reading.{numbers_in, counted, reading, line_of}
@@ -13,7 +14,7 @@ use Rattle.line.proofs.LineLaws.{no_letter, reading_long, reading_empty, reading
 use Rattle.line.proofs.reader.read_line.Goals as goal
 
 -- the answer of a line whose first byte is the letter of e
-answer : (e : Event) {r : Line} (s : List ℕ)
+answer : (e : Event) {r : Option Line} (s : List ℕ)
     → r ≡ line_of (counted e (least e) (numbers_in (most e) (drop 1 s)))
     → length s ≤ 120
     → (length s ≡ 0 → ⊥)
@@ -23,11 +24,11 @@ answer e s p h k q = p ∙ ap line_of (sym (reading_event e s h k q))
 
 pub returns-then-s-gt-MOST_BYTES : goal.returns-then-s-gt-MOST_BYTES
 unfolding line_of
-returns-then-s-gt-MOST_BYTES c = c.bad_line.ensures ∙ ap line_of (sym (reading_long _ c.if-s-gt-MOST_BYTES.true))
+returns-then-s-gt-MOST_BYTES c = ap line_of (sym (reading_long _ c.if-s-gt-MOST_BYTES.true))
 
 pub returns-then-s-eq0 : goal.returns-then-s-eq0
 unfolding line_of
-returns-then-s-eq0 c = c.bad_line-then-s-eq0.ensures ∙ ap line_of (sym (reading_empty _ c.if-s-eq0.true))
+returns-then-s-eq0 c = ap line_of (sym (reading_empty _ c.if-s-eq0.true))
 
 pub returns-in-83 : goal.returns-in-83
 returns-in-83 c = answer event.Setup _ c.read_numbers.ensures c.if-s-gt-MOST_BYTES.false c.if-s-eq0.false c.in-83.is
@@ -55,8 +56,7 @@ pub returns-in_default : goal.returns-in_default
 unfolding line_of
 returns-in_default c =
     let other = c.in_default.in_default-own.rest in
-    c.bad_line-in_default.ensures
-    ∙ ap line_of
+    ap line_of
     (sym
     (reading_other _ c.if-s-gt-MOST_BYTES.false
     (no_letter _ other.0.0.0.0.0.0.1 other.0.0.0.0.0.1 other.0.0.0.0.1 other.0.0.0.1 other.0.0.1 other.0.1 other.1)))
