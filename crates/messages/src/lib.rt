@@ -17,10 +17,7 @@ fn copy_fits(message: &[u32], n: Counts, s: Shelf, from: Depot) -> bool
     requires { (length message.now ≡ slot_words) × (n.depots ≤ most_depots) × (0 < n.shelves) }
     ensures { result ≡ copy_fit n s.0 from.0 message.now }
 {
-    if message[0] != COPY {
-        return false;
-    }
-    carried_fits(&message[SLOT_RECORD..SLOT_WORDS], n, s, from)
+    message[0] == COPY && carried_fits(&message[SLOT_RECORD..SLOT_WORDS], n, s, from)
 }
 
 // Whether a message is a heartbeat in range or such a copy.
@@ -28,14 +25,20 @@ pub fn message_fits(message: &[u32], n: Counts, s: Shelf, from: Depot) -> bool
     requires { (length message.now ≡ slot_words) × (n.depots ≤ most_depots) × (0 < n.shelves) }
     ensures { result ≡ message_fit n s.0 from.0 message.now }
 {
-    let kind = message[0];
-    if kind == BEAT {
-        return message[SLOT_STAMP] <= END;
+    match message[0] {
+        BEAT => message[SLOT_STAMP] <= END,
+        COPY => carried_fits(&message[SLOT_RECORD..SLOT_WORDS], n, s, from),
+        _ => false,
     }
-    if kind != COPY {
-        return false;
-    }
-    carried_fits(&message[SLOT_RECORD..SLOT_WORDS], n, s, from)
+}
+
+// The words of slot i of a link.
+fn slot_of(book: &[u32], q: Link, i: usize) -> &[u32]
+    requires { (length book.now ≡ book_words) × (q.0 < links) × (i < link_room) }
+    ensures { (result.now ≡ slot book.now q.0 i) × (length result.now ≡ slot_words) }
+{
+    let at = q.slot_at(i);
+    &book[at..at + SLOT_WORDS]
 }
 
 // Whether the first `count` messages of a link are such copies.
@@ -43,16 +46,7 @@ fn copies_fit(book: &[u32], n: Counts, s: Shelf, from: Depot, q: Link, count: us
     requires { (length book.now ≡ book_words) × (n.depots ≤ most_depots) × (0 < n.shelves) × (q.0 < links) × (count ≤ link_room) }
     ensures { result ≡ every count (λ i. copy_fit n s.0 from.0 (slot book.now q.0 i)) }
 {
-    let mut i = 0;
-    while i < count {
-        let at = q.slot_at(i);
-        let end = at + SLOT_WORDS;
-        if !copy_fits(&book[at..end], n, s, from) {
-            return false;
-        }
-        i += 1;
-    }
-    true
+    (0..count).all(|i| copy_fits(slot_of(book, q, i), n, s, from))
 }
 
 // Whether the `count` messages after the first `taken` ones are fit.
@@ -68,28 +62,17 @@ pub fn waiting_fit(
     requires { (length book.now ≡ book_words) × (n.depots ≤ most_depots) × (0 < n.shelves) × (q.0 < links) × (taken + count ≤ link_room) }
     ensures { result ≡ every count (λ i. message_fit n s.0 from.0 (slot book.now q.0 (taken + i))) }
 {
-    let mut i = 0;
-    while i < count {
-        let at = q.slot_at(taken + i);
-        let end = at + SLOT_WORDS;
-        if !message_fits(&book[at..end], n, s, from) {
-            return false;
-        }
-        i += 1;
-    }
-    true
+    (0..count).all(|i| message_fits(slot_of(book, q, taken + i), n, s, from))
 }
 
 // Whether the head of a link is fit.
+#[tactic(auto, unfolding(fit::specs::Fit::head_fit))]
 pub fn head_fits(book: &[u32], q: Link) -> bool
     requires { (length book.now ≡ book_words) × (q.0 < links) }
     ensures { result ≡ head_fit book.now q.0 }
 {
     let messages = held_of(book, q);
-    if LINK_ROOM < messages {
-        return false;
-    }
-    taken_of(book, q) <= messages
+    messages <= LINK_ROOM && taken_of(book, q) <= messages
 }
 
 // Whether the messages of a link are fit, `count` of them, the first `taken` of which are taken.
@@ -105,13 +88,8 @@ pub fn messages_fit(
     requires { (length book.now ≡ book_words) × (n.depots ≤ most_depots) × (0 < n.shelves) × (q.0 < links) × (taken ≤ count) × (count ≤ link_room) }
     ensures { result ≡ messages_fit n book.now s.0 from.0 q.0 taken count }
 {
-    if !copies_fit(book, n, s, from, q, taken) {
-        return false;
-    }
-    if taken == count {
-        return true;
-    }
-    waiting_fit(book, n, s, from, q, taken, count - taken)
+    copies_fit(book, n, s, from, q, taken)
+        && (taken == count || waiting_fit(book, n, s, from, q, taken, count - taken))
 }
 
 // Whether the link of a shelf out of a depot is fit.
@@ -121,14 +99,8 @@ pub fn link_fits(book: &[u32], n: Counts, s: Shelf, from: Depot, q: Link) -> boo
 {
     let count = held_of(book, q);
     let taken = taken_of(book, q);
-    if LINK_ROOM < count {
+    if LINK_ROOM < count || count < taken {
         return false;
     }
-    if count < taken {
-        return false;
-    }
-    if count == 0 {
-        return true;
-    }
-    messages_fit(book, n, s, from, q, taken, count)
+    count == 0 || messages_fit(book, n, s, from, q, taken, count)
 }

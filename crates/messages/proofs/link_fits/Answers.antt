@@ -1,31 +1,25 @@
 -- `messages::link_fits` meets its contract: the head's two tests, then the messages.
 -- Assumes nothing.
-use mathlib.Core.Path.{◌∙◌, sym}
-use borrow.Author.Tests.{le-leb, lt-leb}
-use Rattle.loops.proofs.BoolLaws.{and_next, and_stop}
+use native.Mathlib.Omega.{arith}
+use Rattle.std.proofs.lemmas.Grind.{common_steps}
 use Rattle.messages.proofs.MessageLaws.{link_heads, link_empty}
 use Rattle.messages.proofs.link_fits.Goals as goal
 
 pub returns-then-count-gt-LINK_ROOM : goal.returns-then-count-gt-LINK_ROOM
 returns-then-count-gt-LINK_ROOM c =
-    sym (link_heads _ _ _ _ _ c.held_of-count.ensures c.taken_of-taken.ensures ∙ and_stop _ (lt-leb _ _ c.if-count-gt-LINK_ROOM.true))
-
-pub returns-then-count-taken : goal.returns-then-count-taken
-returns-then-count-taken c =
-    sym (link_heads _ _ _ _ _ c.held_of-count.ensures c.taken_of-taken.ensures ∙ and_next _ (le-leb _ _ c.if-count-gt-LINK_ROOM.false) ∙ and_stop _ (lt-leb _ _ c.if-count-taken.true))
+    let args = c.args in
+    let said = link_heads args.n args.book.now args.s.0 args.from.0 args.q.0 c.held_of-count.ensures c.taken_of-taken.ensures in
+    grind (arith, common_steps)
 
 pub returns-then-count-eq0 : goal.returns-then-count-eq0
 returns-then-count-eq0 c =
-    sym
-    (link_heads _ _ _ _ _ c.held_of-count.ensures c.taken_of-taken.ensures
-    ∙ and_next _ (le-leb _ _ c.if-count-gt-LINK_ROOM.false)
-    ∙ and_next _ (le-leb _ _ c.if-count-taken.false)
-    ∙ link_empty _ _ _ _ _ c.if-count-eq0.true c.if-count-taken.false)
+    let args = c.args in
+    let said = link_heads args.n args.book.now args.s.0 args.from.0 args.q.0 c.held_of-count.ensures c.taken_of-taken.ensures in
+    let none = link_empty args.n args.book.now args.s.0 args.from.0 args.q.0 {t = c.taken_of-taken.result} c.if-count-eq0.true (omega arith) in
+    grind (arith, common_steps)
 
-pub returns : goal.returns
-returns c =
-    c.messages_fit.ensures
-    ∙ sym
-    (link_heads _ _ _ _ _ c.held_of-count.ensures c.taken_of-taken.ensures
-    ∙ and_next _ (le-leb _ _ c.if-count-gt-LINK_ROOM.false)
-    ∙ and_next _ (le-leb _ _ c.if-count-taken.false))
+pub returns-else-count-eq0 : goal.returns-else-count-eq0
+returns-else-count-eq0 c =
+    let args = c.args in
+    let said = link_heads args.n args.book.now args.s.0 args.from.0 args.q.0 c.held_of-count.ensures c.taken_of-taken.ensures in
+    grind (arith, common_steps)
