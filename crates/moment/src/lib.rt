@@ -40,10 +40,8 @@ pub fn gather(book: &[u32], n: usize, p: usize, d: Depot, vector: &mut [u32])
     requires { (length book.now ≡ book_words) × (n ≤ most_depots) × (p ≤ most_shelves) × (d.0 < most_depots) × (length vector.old ≡ most_depots) }
     ensures { vector.new ≡ gathered_from n p d.0 book.now vector.old }
 {
-    let mut s = 0;
-    while s < p {
+    for s in 0..p {
         gather_one(book, n, d, Shelf::nth(s, p), vector);
-        s += 1;
     }
 }
 
@@ -52,10 +50,8 @@ pub fn settle_all(book: &mut [u32], n: usize, p: usize, d: Depot, offered: &[u32
     requires { (length book.old ≡ book_words) × (length offered.now ≡ most_depots) × ((s : ℕ) → s < p → Ready n d.0 s book.old) }
     ensures { book.new ≡ settled_all n p d.0 (vector_in offered.now) book.old }
 {
-    let mut s = 0;
-    while s < p {
+    for s in 0..p {
         settle(book, n, d, Shelf::nth(s, p), offered);
-        s += 1;
     }
 }
 
@@ -97,11 +93,9 @@ pub fn tell_all(book: &[u32], n: Counts, d: Depot, bearings: &[u32], words: &mut
         × (all_below n.bearings bearings.now ≡ true) × (words.old ≡ replicate 64 0) }
     ensures { words.new ≡ page_words 8 (map (λ k. told n.depots (stored book.now d.0 k)) bearings.now) }
 {
-    let mut i = 0;
-    while i < bearings.len() {
+    for i in 0..bearings.len() {
         let k = bearing_at(bearings, i, n.bearings);
         tell_one(book, n.depots, d, k, words, TOLD_WORDS * i);
-        i += 1;
     }
 }
 
@@ -123,10 +117,8 @@ pub fn merge_all(book: &mut [u32], n: Counts, c: Crew, d: Depot, bearings: &[u32
         × (all_below n.bearings bearings.now ≡ true) }
     ensures { book.new ≡ merged_all n.depots c.0 d.0 bearings.now book.old }
 {
-    let mut i = 0;
-    while i < bearings.len() {
+    for i in 0..bearings.len() {
         let bearing = bearing_at(bearings, i, n.bearings);
         merge_one(book, n.depots, c, d, bearing);
-        i += 1;
     }
 }

@@ -30,14 +30,7 @@ fn are_depots(homes: &[u32], crews: usize, depots: usize) -> bool
     requires { crews ≤ length homes.now }
     ensures { result ≡ every crews (λ c. ltb (get_or homes.now c 0) depots) }
 {
-    let mut i = 0;
-    while i < crews {
-        if depots <= wide(homes[i]) {
-            return false;
-        }
-        i += 1;
-    }
-    true
+    (0..crews).all(|crew| wide(homes[crew]) < depots)
 }
 
 // The four counts and the homes stand in the book, and 0 everywhere else.
