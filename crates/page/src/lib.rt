@@ -8,7 +8,7 @@ ghost use Rattle.book.specs.Layout.{counts_of};
 ghost use Rattle.named.specs.Named.{is_list, all_below, base_fit};
 ghost use Rattle.register.specs.Promises.{Listing};
 
-use book::numbers::Crew;
+use book::numbers::{Crew, Numbered};
 use book::parts::{counts_of, wide};
 use moment::{gather, merge_all, settle_all, tell_all};
 use named_call::{base_fits, list_parts_fit};

@@ -10,7 +10,7 @@ ghost use Rattle.register.specs.Table.{arrived};
 ghost use Rattle.register.specs.Promises.{Move};
 
 use book::layout::home_at;
-use book::numbers::{Crew, Depot};
+use book::numbers::{Crew, Depot, Numbered};
 use book::parts::{Counts, counts_of, home_of, wide};
 use lowest::lowest_seen;
 use named_call::{base_fits, move_parts_fit};

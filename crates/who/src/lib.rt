@@ -9,7 +9,7 @@ ghost use Rattle.who.specs.Bits.{mask_of};
 ghost use Rattle.who.specs.Who.{has_it, who_parts, WhoHas};
 
 use book::layout::stored_at;
-use book::numbers::{Bearing, Depot};
+use book::numbers::{Bearing, Depot, Numbered};
 use book::parts::{Counts, counts_of};
 use named_call::base_fits;
 use order::record::{RECORD_WORDS, is_above};
