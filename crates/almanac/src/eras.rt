@@ -1,7 +1,7 @@
 // Another way to compute dates, with which the calendar is compared: eras of 400 years, years that begin in March, and divisions. It has no
 // table and no list of month lengths, and the leap rule only as quotients by 4, 100 and the era. The remainders by 400, 1,000 and powers of
 // ten cut nothing that the comparison asks; they show that no sum wraps.
-#[derive(Clone, Copy)]
+#[derive(Clone, Copy, PartialEq, Eq)]
 pub struct Civil {
     pub year: u64,
     pub month: u64,
@@ -14,15 +14,15 @@ const ERA_DAYS: u64 = 146_097;
 const TO_2000: u64 = 730_425;
 
 // The day number of a date: counted from 1 March of the year -400 first, so that nothing is negative.
-pub fn number_by_eras(year: u64, month: u64, day: u64) -> u64 {
-    let in_march_years = (year % 10_000 + 400) * 12 + month % 100 + 9;
+pub fn number_by_eras(date: Civil) -> u64 {
+    let in_march_years = (date.year % 10_000 + 400) * 12 + date.month % 100 + 9;
     let march_year = in_march_years / 12 - 1;
     let march_month = in_march_years % 12;
     let in_era = march_year % 400;
     let before = (march_year / 400 * ERA_DAYS + in_era * 365 + in_era / 4 - in_era / 100)
         % 10_000_000;
-    let total = before + (153 * march_month + 2) / 5 + day % 100;
-    std::num::wrapping_sub_u64(total, TO_2000 + ERA_DAYS + 1)
+    let total = before + (153 * march_month + 2) / 5 + date.day % 100;
+    total.wrapping_sub(TO_2000 + ERA_DAYS + 1)
 }
 
 // The date of a day number.
@@ -32,9 +32,9 @@ pub fn civil_by_eras(number: u64) -> Civil {
     let in_era = days % ERA_DAYS;
     let year_in_era = (in_era - in_era / 1460 + in_era / 36_524 - in_era / 146_096) / 365 % 400;
     let before = year_in_era * 365 + year_in_era / 4 - year_in_era / 100;
-    let in_year = std::num::wrapping_sub_u64(in_era, before) % 1000;
+    let in_year = in_era.wrapping_sub(before) % 1000;
     let march_month = (5 * in_year + 2) / 153;
-    let day = std::num::wrapping_sub_u64(in_year + 1, (153 * march_month + 2) / 5);
+    let day = (in_year + 1).wrapping_sub((153 * march_month + 2) / 5);
     let march_year = era * 400 + year_in_era;
     if march_month < 10 {
         return Civil {
@@ -50,47 +50,22 @@ pub fn civil_by_eras(number: u64) -> Civil {
     }
 }
 
-// Whether two dates are one.
-pub fn same(a: Civil, b: Civil) -> bool {
-    if a.year != b.year {
-        return false;
-    }
-    if a.month != b.month {
-        return false;
-    }
-    a.day == b.day
-}
-
 // Whether there is such a date: its number has it as its date.
-pub fn exists(year: u64, month: u64, day: u64) -> bool {
-    if year < 2000 {
-        return false;
-    }
-    if 2399 < year {
-        return false;
-    }
-    if 12 < month {
-        return false;
-    }
-    if 31 < day {
-        return false;
-    }
-    same(
-        civil_by_eras(number_by_eras(year, month, day)),
-        Civil { year, month, day },
-    )
+pub fn exists(date: Civil) -> bool {
+    2000 <= date.year
+        && date.year <= 2399
+        && date.month <= 12
+        && date.day <= 31
+        && civil_by_eras(number_by_eras(date)) == date
 }
 
-// The day, or the month's last day where the month is shorter.
-pub fn shortened(year: u64, month: u64, day: u64) -> u64 {
-    if exists(year, month, day) {
-        return day;
+// The date, or the month's last day where the month is shorter.
+pub fn shortened(date: Civil) -> Civil {
+    for day in [date.day, 30, 29] {
+        let there = Civil { day, ..date };
+        if exists(there) {
+            return there;
+        }
     }
-    if exists(year, month, 30) {
-        return 30;
-    }
-    if exists(year, month, 29) {
-        return 29;
-    }
-    28
+    Civil { day: 28, ..date }
 }

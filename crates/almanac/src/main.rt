@@ -5,11 +5,12 @@
 mod compare;
 mod eras;
 
-use crate::compare::{date_compared, day_compared, next_compared};
+use crate::compare::{Outcome, date_compared, day_compared, next_compared};
+use calendar::answers::DateRefusal;
 use std::io;
 
 // How many answers were dates, how many refusals of each number, and how many wrong.
-#[derive(Clone, Copy)]
+#[derive(Clone, Copy, Default)]
 struct Tally {
     dates: u64,
     bad_date: u64,
@@ -19,72 +20,41 @@ struct Tally {
     wrong: u64,
 }
 
-fn nothing() -> Tally {
-    Tally {
-        dates: 0,
-        bad_date: 0,
-        bad_step: 0,
-        bad_count: 0,
-        too_late: 0,
-        wrong: 0,
-    }
-}
-
-fn one_more(x: u64) -> u64 {
-    std::num::wrapping_add_u64(x, 1)
-}
-
-fn counted(mut t: Tally, answer: u32) -> Tally {
-    match answer {
-        0 => {
-            t.dates = one_more(t.dates);
-        }
-        1 => {
-            t.bad_date = one_more(t.bad_date);
-        }
-        2 => {
-            t.bad_step = one_more(t.bad_step);
-        }
-        3 => {
-            t.bad_count = one_more(t.bad_count);
-        }
-        4 => {
-            t.too_late = one_more(t.too_late);
-        }
-        _ => {
-            t.wrong = one_more(t.wrong);
-        }
-    }
+fn counted(mut t: Tally, outcome: Outcome) -> Tally {
+    let place = match outcome {
+        Outcome::Date => &mut t.dates,
+        Outcome::Refused(DateRefusal::BadDate) => &mut t.bad_date,
+        Outcome::Refused(DateRefusal::BadStep) => &mut t.bad_step,
+        Outcome::Refused(DateRefusal::BadCount) => &mut t.bad_count,
+        Outcome::Refused(DateRefusal::TooLate) => &mut t.too_late,
+        Outcome::Wrong => &mut t.wrong,
+    };
+    *place = place.wrapping_add(1);
     t
 }
 
 // Every day number, and the 366 past the last.
 fn all_days() -> Tally {
-    let mut t = nothing();
-    let mut k: u32 = 0;
-    while k < 146_463 {
+    let mut t = Tally::default();
+    for k in 0..146_463 {
         t = counted(t, day_compared(k));
-        k += 1;
     }
     t
 }
 
 // Days 0 to 32 of months 0 to 13 of the years 1999 to 2400.
 fn all_dates() -> Tally {
-    let mut t = nothing();
-    let mut i: u32 = 0;
-    while i < 185_724 {
+    let mut t = Tally::default();
+    for i in 0..185_724 {
         t = counted(t, date_compared(1999 + i / 462, i / 33 % 14, i % 33));
-        i += 1;
     }
     t
 }
 
 // Every day of every month of the years 1999 to 2400, four times, with steps of 0 to 121 months and counts of 0 to 52.
 fn many_anchors() -> Tally {
-    let mut t = nothing();
-    let mut i: u32 = 0;
-    while i < 598_176 {
+    let mut t = Tally::default();
+    for i in 0..598_176 {
         t = counted(
             t,
             next_compared(
@@ -95,7 +65,6 @@ fn many_anchors() -> Tally {
                 i / 11 % 53,
             ),
         );
-        i += 1;
     }
     t
 }

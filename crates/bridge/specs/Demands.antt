@@ -14,10 +14,9 @@ use Rattle.events.specs.Answering as events
 use Rattle.calls.specs.Performed.{request_of}
 use Rattle.reply.specs.Printed.{printed}
 use Rattle.events.specs.Answering.{line_feed, answer_to}
-use Rattle.calendar.specs.Dates.{date_answer}
+use Rattle.calendar.specs.Dates.{on, date_answer}
 use Rattle.calendar.specs.Promises.{Good}
 use Rattle.calendar.specs.declared.answers.Date.{Date}
-use Rattle.calendar.specs.declared.answers.DateAnswer.TheVariants.{On}
 use Rattle.model.specs.Calls.{refusal, step}
 use Rattle.model.specs.System.{after, of_model}
 use Rattle.model.specs.Demands as demands
@@ -31,7 +30,7 @@ use Rattle.bridge.specs.Systems.{of_books}
 -- the day number k has a date: one that exists and has the number k, and it is what the calendar answers
 pub record HasDate (k : ℕ) : Type 0 where
   pub date : Date
-  pub answer : date_answer k ≡ On date k
+  pub answer : date_answer k ≡ on date k
   pub good : Good date k
 
 module _ (n : Counts) (homes : List ℕ) where

@@ -9,7 +9,7 @@ use mathlib.Core.Logic.{⊎_elim}
 use mathlib.Core.Bool.{true, false, ◌&&◌}
 use lib.Dec.{leb}
 use borrow.Author.Tests.{le-leb, lt-leb, leb-true, leb-false}
-use Rattle.loops.proofs.BoolLaws.{and_left, and_right, and_stop, decided, eq_or_ne, pick_true, pick_false}
+use Rattle.loops.proofs.BoolLaws.{and_left, and_right, decided, eq_or_ne, pick_true, pick_false}
 use Rattle.months.specs.Months.{days_in, days_of, year_of, month_of, start}
 use Rattle.calendar.specs.Dates.{is_date, month_index, day_number, month_by, month_on}
 use Rattle.months.proofs.MonthLaws.{days_month, month_least, month_most}
@@ -42,18 +42,6 @@ date_real y m d e =
     }
 
 -- the cases of the test
-pub date_early : (y m d : ℕ) → y < 2000 → is_date y m d ≡ false
-unfolding is_date
-date_early y m d h = and_stop _ (lt-leb 2000 y h)
-
-pub date_late : (y m d : ℕ) → 2000 ≤ y → 2399 < y → is_date y m d ≡ false
-unfolding is_date
-date_late y m d h k = rw (le-leb 2000 y h, lt-leb y 2399 k)
-
-pub date_day_0 : (y m d : ℕ) → 2000 ≤ y → y ≤ 2399 → d < 1 → is_date y m d ≡ false
-unfolding is_date
-date_day_0 y m d h k l = rw (le-leb 2000 y h, le-leb y 2399 k, lt-leb 1 d l)
-
 pub date_within : (y m d : ℕ) → 2000 ≤ y → y ≤ 2399 → 1 ≤ d → is_date y m d ≡ leb d (days_in y m)
 unfolding is_date
 date_within y m d h k l = rw (le-leb 2000 y h, le-leb y 2399 k, le-leb 1 d l)

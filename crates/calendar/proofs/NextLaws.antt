@@ -6,22 +6,21 @@ use native.Mathlib.Omega.{arith}
 use mathlib.Core.Path.{◌≡◌, sym, ◌∙◌, subst}
 use mathlib.Core.Logic.{⊎_elim}
 use mathlib.Core.Bool.{true, false}
+use lib.Dec.{leb}
 use borrow.Author.Tests.{leb-true}
-use Rattle.loops.proofs.BoolLaws.{and_left, decided, eq_or_ne, le_or_lt}
+use Rattle.loops.proofs.BoolLaws.{and_left, and_right, decided, eq_or_ne, le_or_lt}
 use Rattle.months.specs.Months.{days_of, start}
-use Rattle.calendar.specs.Dates.{is_date, month_index, day_number, day_number_of}
+use Rattle.calendar.specs.Dates.{is_date, month_index, day_number, day_number_of, DateAnswer, on}
 use Rattle.calendar.specs.Next.{is_step, next_month, day_within, next_date, numbered, next_answer}
 use Rattle.calendar.specs.Promises.{Accepted, Reason, bad_date, bad_step, bad_count, too_late, good}
 use Rattle.calendar.specs.declared.answers.Date.{Date}
-use Rattle.calendar.specs.declared.answers.DateAnswer.{DateAnswer}
-use Rattle.calendar.specs.declared.answers.DateAnswer.TheVariants.{On}
 use Rattle.months.proofs.MonthLaws.{days_of_bounds}
 use Rattle.months.proofs.StartLaws.{start_after}
 use Rattle.calendar.proofs.DateLaws.{date_real, date_in_real, index_days, number_in}
-use Rattle.calendar.proofs.AnswerLaws.{next_bad_date, next_bad_step, next_bad_count, next_too_late, next_given}
+use Rattle.calendar.proofs.AnswerLaws.{on_parts, next_bad_date, next_bad_step, next_bad_count, next_too_late, next_given}
 
 -- what is answered when there is one
-pub given : (y m d s n : ℕ) → Accepted y m d s n → next_answer y m d s n ≡ On (next_date y m d s n) (day_number_of (next_date y m d s n))
+pub given : (y m d s n : ℕ) → Accepted y m d s n → next_answer y m d s n ≡ on (next_date y m d s n) (day_number_of (next_date y m d s n))
 unfolding numbered
 given y m d s n w = next_given y m d s n w.anchor w.step w.count w.in_time
 
@@ -47,10 +46,10 @@ reason y m d s n p =
     (λ (f : is_date y m d ≡ false). subst (Reason y m d s n) (sym (next_bad_date y m d s n f) ∙ p) (bad_date f))
     (decided (is_date y m d))
 
-pub accepted : (y m d s n : ℕ) {e : Date} {k : ℕ} → next_answer y m d s n ≡ On e k → Accepted y m d s n
+pub accepted : (y m d s n : ℕ) {e : Date} {k : ℕ} → next_answer y m d s n ≡ on e k → Accepted y m d s n
 accepted y m d s n p = of (reason y m d s n p)
   where
-    of : {e : Date} {k : ℕ} → Reason y m d s n (On e k) → Accepted y m d s n
+    of : {e : Date} {k : ℕ} → Reason y m d s n (on e k) → Accepted y m d s n
     of (good w) = w
 
 -- the number of the n-th next date, from its month's start
@@ -64,6 +63,10 @@ next_number_law y m d s n = number_in (next_month y m s n) (day_within (next_mon
 pub step_least : (s : ℕ) → is_step s ≡ true → 1 ≤ s
 unfolding is_step
 step_least s e = leb-true 1 s (and_left _ _ e)
+
+pub step_most : (s : ℕ) → is_step s ≡ true → s ≤ 120
+unfolding is_step
+step_most s e = leb-true s 120 (and_right (leb 1 s) (leb s 120) e)
 
 -- the months rise by the step
 pub month_rises : (y m s n : ℕ) → next_month y m s (suc n) ≡ next_month y m s n + s
@@ -95,10 +98,8 @@ pub number_anchor : (y m d s : ℕ) → is_date y m d ≡ true → day_number_of
 number_anchor y m d s e = next_number_law y m d s 0 ∙ from_anchor y m d s e
 
 -- an answer that is a date is the n-th next date and its number
-pub answered : (y m d s n : ℕ) {e : Date} {k : ℕ} → next_answer y m d s n ≡ On e k → (next_date y m d s n ≡ e) × (day_number_of (next_date y m d s n) ≡ k)
-answered y m d s n p =
-    let q = sym (given y m d s n (accepted y m d s n p)) ∙ p in
-    (cc, cc)
+pub answered : (y m d s n : ℕ) {e : Date} {k : ℕ} → next_answer y m d s n ≡ on e k → (next_date y m d s n ≡ e) × (day_number_of (next_date y m d s n) ≡ k)
+answered y m d s n p = on_parts (sym (given y m d s n (accepted y m d s n p)) ∙ p)
 
 -- it exists
 pub next_exists : (y m d s n : ℕ) → Accepted y m d s n → is_date (next_date y m d s n).year (next_date y m d s n).month (next_date y m d s n).day ≡ true

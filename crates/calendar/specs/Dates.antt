@@ -1,14 +1,13 @@
 -- Dates of the years 2000 to 2399 and their day numbers: which dates exist, the number of a date, and the date of a number.
 -- Assumes nothing.
-use Rattle.std.specs.Prelude.{ℕ, zero, suc, ◌+◌, ◌-◌, ◌*◌, Bool, ◌&&◌, leb}
+use Rattle.std.specs.Prelude.{ℕ, zero, suc, ◌+◌, ◌-◌, ◌*◌, Bool, ◌&&◌, leb, Result, Ok, Err}
 use Rattle.loops.specs.Loops.{pick}
 use Rattle.paper.specs.Calls.{last_day}
 use Rattle.months.specs.Months.{first_year, last_year, days_in, year_of, month_of, start}
 use Rattle.calendar.specs.declared.answers.Date.{Date}
 use Rattle.calendar.specs.declared.answers.DateRefusal.{DateRefusal}
 use Rattle.calendar.specs.declared.answers.DateRefusal.TheVariants.{BadDate, BadStep, BadCount, TooLate}
-use Rattle.calendar.specs.declared.answers.DateAnswer.{DateAnswer}
-use Rattle.calendar.specs.declared.answers.DateAnswer.TheVariants.{Refused, On}
+use Rattle.calendar.specs.declared.answers.Dated.{Dated}
 
 -- the refusals and their numbers, in the order in which they are looked for
 --   1 the anchor is no date · 2 the step is not 1 to 120 months · 3 the count is 0 · 4 the result lies after 2399
@@ -51,10 +50,18 @@ month_on k = month_by 4799 k
 unfoldable pub date_of : ℕ → Date
 date_of k = date_in (month_on k) (k - start (month_on k) + 1)
 
+-- what is answered: a date with its day number, or why there is none
+abbrev pub DateAnswer : Type 0
+DateAnswer = Result Dated DateRefusal
+
+-- the answer that is the date d with the day number k
+abbrev pub on : Date → ℕ → DateAnswer
+on d k = Ok (record { date = d; number = k })
+
 -- the answer to a date whose day number is asked for
 unfoldable pub day_number_answer : ℕ → ℕ → ℕ → DateAnswer
-day_number_answer year month day = pick (is_date year month day) (On (record { year = year; month = month; day = day }) (day_number year month day)) (Refused BadDate)
+day_number_answer year month day = pick (is_date year month day) (on (record { year = year; month = month; day = day }) (day_number year month day)) (Err BadDate)
 
 -- the answer to a day number whose date is asked for
 unfoldable pub date_answer : ℕ → DateAnswer
-date_answer k = pick (leb k last_day) (On (date_of k) k) (Refused TooLate)
+date_answer k = pick (leb k last_day) (on (date_of k) k) (Err TooLate)

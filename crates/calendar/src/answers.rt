@@ -10,20 +10,20 @@ pub struct Date {
     pub day: u32,
 }
 
-// Why there is no date, in the order in which it is looked for. A day number past 31 December 2399 is too late, too.
+// A date with its day number.
 #[derive(Clone, Copy)]
+pub struct Dated {
+    pub date: Date,
+    pub number: u32,
+}
+
+// Why there is no date, in the order in which it is looked for. A day number past 31 December 2399 is too late, too.
+#[derive(Clone, Copy, PartialEq, Eq)]
 pub enum DateRefusal {
     BadDate,
     BadStep,
     BadCount,
     TooLate,
-}
-
-// A refusal, or a date with its day number.
-#[derive(Clone, Copy)]
-pub enum DateAnswer {
-    Refused(DateRefusal),
-    On(Date, u32),
 }
 
 // The number of a refusal, 1 to 4.

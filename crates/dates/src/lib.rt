@@ -9,7 +9,7 @@ ghost use Rattle.room.specs.Room.{no_room, in_room};
 ghost use Rattle.dates.specs.Told.{number_words, date_words, next_words, date_number, number_out, date_out, next_out};
 
 use book::words::write_words;
-use calendar::answers::{DateAnswer, refusal_number};
+use calendar::answers::refusal_number;
 use calendar::dates::{date_of, day_number, next_date};
 use room::NO_ROOM;
 
@@ -29,9 +29,9 @@ pub fn tell_number(year: u32, month: u32, day: u32, out: &mut [u32]) -> u32
         return NO_ROOM;
     }
     match day_number(year, month, day) {
-        DateAnswer::Refused(refusal) => refusal_number(refusal),
-        DateAnswer::On(_, number) => {
-            let words = [number];
+        Err(refusal) => refusal_number(refusal),
+        Ok(dated) => {
+            let words = [dated.number];
             write_words(out, 0, &words);
             0
         }
@@ -47,8 +47,9 @@ pub fn tell_date(day: u32, out: &mut [u32]) -> u32
         return NO_ROOM;
     }
     match date_of(day) {
-        DateAnswer::Refused(refusal) => refusal_number(refusal),
-        DateAnswer::On(date, _) => {
+        Err(refusal) => refusal_number(refusal),
+        Ok(dated) => {
+            let date = dated.date;
             let words = [date.year, date.month, date.day];
             write_words(out, 0, &words);
             0
@@ -65,9 +66,10 @@ pub fn tell_next(year: u32, month: u32, day: u32, step: u32, n: u32, out: &mut [
         return NO_ROOM;
     }
     match next_date(year, month, day, step, n) {
-        DateAnswer::Refused(refusal) => refusal_number(refusal),
-        DateAnswer::On(date, number) => {
-            let words = [date.year, date.month, date.day, number];
+        Err(refusal) => refusal_number(refusal),
+        Ok(dated) => {
+            let date = dated.date;
+            let words = [date.year, date.month, date.day, dated.number];
             write_words(out, 0, &words);
             0
         }

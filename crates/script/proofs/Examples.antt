@@ -9,7 +9,7 @@ use Rattle.loops.specs.Loops.{pick}
 use Rattle.line.specs.Reading.{reading, headed, named, event_of}
 use Rattle.line.specs.Number.{decimal, spelled}
 use Rattle.events.specs.Answering.{answer_to, book_after_line, reading_says, reading_book}
-use Rattle.script.specs.Script.{onto, fed_lines, line_size, first_line, unfed, Runs, book_run}
+use Rattle.script.specs.Script.{onto, fed_lines, line_size, unfed, Runs}
 
 module _ (l : List ℕ) where
   -- X, 13, X, 13: it runs, and leaves the book alone

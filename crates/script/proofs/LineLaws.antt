@@ -10,7 +10,6 @@ use mathlib.Core.List.{List, [], ◌∷◌}
 use lib.ListN.{length, get_or, take, drop, take-append-drop, length-take, length-drop, drop_of_length-le}
 use lib.Seq.{drop-cons, drop-drop, take-take, take-append_seam, drop-append_seam}
 use borrow.Author.Tests.{eq-eqb, ne_eqb}
-use Rattle.loops.specs.Loops.{pick}
 use Rattle.loops.proofs.BoolLaws.{eq_or_ne, pick_true, pick_false}
 use Rattle.shelf.proofs.FrameLaws.{pick_cases}
 use Rattle.events.specs.Answering.{line_feed}

@@ -5,11 +5,11 @@ use native.Mathlib.Numerals.{add-one}
 use native.Mathlib.Nat.{le_antisymm}
 use native.Mathlib.Omega.{arith}
 use mathlib.Core.Path.{◌≡◌, refl, sym, ◌∙◌, ap, ap₂, subst}
-use mathlib.Core.List.{List, [], ◌∷◌, ◌++◌}
+use mathlib.Core.List.{List, [], ◌∷◌}
 use mathlib.Core.Bool.{Bool, true, false}
 use lib.ListN.{length, take, drop, length-append, length-drop, drop_of_length-le}
 use Rattle.loops.proofs.BoolLaws.{both_ways}
-use Rattle.events.specs.Answering.{line_feed, answer_to, book_after_line, reading_says}
+use Rattle.events.specs.Answering.{answer_to, book_after_line, reading_says}
 use Rattle.line.specs.Reading.{reading}
 use Rattle.script.specs.Script.{fed_lines, line_size, first_line, unfed, Runs, book_run, book_times, RunsTimes, Exactly}
 use Rattle.script.proofs.LineLaws.{after_line, lines_more, unfed_first, line_part, fed_part, after_part, after_within}

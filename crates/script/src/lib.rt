@@ -6,21 +6,18 @@ ghost use Rattle.events.specs.Answering.{answer_to, book_after_line};
 ghost use Rattle.reply.specs.Printed.{answer_room};
 ghost use Rattle.script.specs.Script.{fed_lines, line_size, first_line, Runs, book_run, RunsTimes, book_times, Exactly};
 
-use check::same;
 use events::answer::{LINE_FEED, answer_line};
 
 // The place of the line feed of the line that stands at `at`, or the end of the text.
 fn line_end(s: &[u8], at: usize) -> usize
     ensures { result ≡ at + line_size (drop at s.now) }
 {
-    let mut i = at;
-    while i < s.len() {
+    for i in at..s.len() {
         if s[i] == LINE_FEED {
             return i;
         }
-        i += 1;
     }
-    i
+    at.max(s.len())
 }
 
 // The place after that line, its line feed passed.
@@ -42,7 +39,7 @@ fn is_answered(book: &mut [u32], out: &mut [u8], line: &[u8], expected: &[u8]) -
 {
     let n = answer_line(book, line, out, 0);
     let said = &out[..n];
-    same(said, expected)
+    said == expected
 }
 
 // All lines of the script are done; whether every one gets its answer. `out` has room for one answer at a time.
@@ -70,10 +67,8 @@ pub fn repeated(book: &mut [u32], out: &mut [u8], script: &[u8], times: usize) -
     ensures exactly { Exactly result (RunsTimes times book.old (fed_lines script.now)) }
 {
     let mut good = true;
-    let mut i = 0;
-    while i < times {
+    'times: for _ in 0..times {
         good = runs(book, out, script) && good;
-        i += 1;
     }
     good
 }
@@ -82,8 +77,5 @@ pub fn repeated(book: &mut [u32], out: &mut [u8], script: &[u8], times: usize) -
 pub fn is_word(book: &[u32], at: usize, value: u32) -> bool
     ensures { Exactly result ((at < length book.now) × (get_or book.now at 0 ≡ value)) }
 {
-    if at < book.len() {
-        return book[at] == value;
-    }
-    false
+    at < book.len() && book[at] == value
 }

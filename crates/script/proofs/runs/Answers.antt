@@ -1,6 +1,5 @@
 -- `script::runs` meets its contract. The loop's invariant: what is left of the script runs on the book so far, and every answer so far was right, exactly if the whole script runs.
 -- Assumes nothing.
-use Prim.Native.Nat.{◌-◌}
 use native.Mathlib.Omega.{arith}
 use mathlib.Core.Path.{refl, ◌∙◌}
 use Rattle.script.proofs.LineLaws.{Turn, turn_at}

@@ -6,9 +6,8 @@ use mathlib.Core.Path.{◌≡◌, sym, ◌∙◌, ap, ap₂}
 use mathlib.Core.List.{List}
 use lib.ListN.{get_or}
 use Rattle.months.specs.Months.{start, Starts}
-use Rattle.calendar.specs.Dates.{date_in, month_on, date_of}
+use Rattle.calendar.specs.Dates.{date_in, month_on, date_of, on}
 use Rattle.calendar.specs.declared.answers.Date.{Date}
-use Rattle.calendar.specs.declared.answers.DateAnswer.TheVariants.{On}
 use Rattle.calendar.proofs.DateLaws.{month_on_inside}
 use Rattle.calendar.proofs.AnswerLaws.{date_refused, date_given}
 use Rattle.calendar.proofs.dates.date_of.Goals as goal
@@ -50,6 +49,6 @@ returns c =
     let k = c.args.day in
     let h = c.if-day-gt-LAST_DAY.false in
     let e = c.month_on-month.ensures in
-    ap (λ (d : Date). On d k)
+    ap (λ (d : Date). on d k)
     (c.date_in.ensures ∙ ap₂ (λ (m s : ℕ). date_in m (k - s + 1)) e (said _ k c.month_starts-starts.ensures h e))
     ∙ sym (date_given k h)

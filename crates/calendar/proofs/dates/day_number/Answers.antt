@@ -6,8 +6,7 @@ use mathlib.Core.Path.{◌≡◌, sym, ◌∙◌, ap}
 use mathlib.Core.Bool.{true}
 use Rattle.loops.proofs.BoolLaws.{test_passed, test_failed}
 use Rattle.months.specs.Months.{start}
-use Rattle.calendar.specs.Dates.{is_date, month_index, day_number}
-use Rattle.calendar.specs.declared.answers.DateAnswer.TheVariants.{On}
+use Rattle.calendar.specs.Dates.{is_date, month_index, day_number, on}
 use Rattle.calendar.proofs.DateLaws.{date_real, index_days, index_small, end_small}
 use Rattle.calendar.proofs.AnswerLaws.{start_uncut, number_refused, number_given}
 use Rattle.calendar.proofs.dates.day_number.Goals as goal
@@ -40,6 +39,6 @@ unfolding day_number
 returns c =
     let e = test_passed c.is_date.ensures c.if-not-is_date.false-raw in
     let args = c.args in
-    ap (λ (s : ℕ). On (record { year = args.year; month = args.month; day = args.day }) (s + (args.day - 1)))
+    ap (λ (s : ℕ). on (record { year = args.year; month = args.month; day = args.day }) (s + (args.day - 1)))
     (said _ _ _ e c.index_of.ensures c.month_start-start.ensures).0
     ∙ sym (number_given _ _ _ e)

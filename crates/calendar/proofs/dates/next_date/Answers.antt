@@ -9,25 +9,26 @@ use Rattle.loops.proofs.BoolLaws.{test_passed, test_failed}
 use Rattle.calendar.specs.Dates.{date_in}
 use Rattle.calendar.specs.Next.{day_within, numbered, next_date}
 use Rattle.calendar.proofs.DateLaws.{date_real}
-use Rattle.calendar.proofs.AnswerLaws.{step_low, step_high, step_good, next_bad_date, next_bad_step, next_bad_count, next_too_late, next_given}
+use Rattle.calendar.proofs.AnswerLaws.{next_bad_date, next_bad_step, next_bad_count, next_too_late, next_given}
+use Rattle.calendar.proofs.NextLaws.{step_most}
 use Rattle.calendar.proofs.dates.next_date.Goals as goal
 
 pub returns-then-not-is_date : goal.returns-then-not-is_date
 returns-then-not-is_date c = sym (next_bad_date _ _ _ _ _ (test_failed c.is_date.ensures c.if-not-is_date.true-raw))
 
-pub returns-then-step-lt1 : goal.returns-then-step-lt1
-returns-then-step-lt1 c = sym (next_bad_step _ _ _ _ _ (test_passed c.is_date.ensures c.if-not-is_date.false-raw) (step_low _ c.if-step-lt1.true))
-
-pub returns-then-step-gt-LONGEST_STEP : goal.returns-then-step-gt-LONGEST_STEP
-returns-then-step-gt-LONGEST_STEP c =
-    sym (next_bad_step _ _ _ _ _ (test_passed c.is_date.ensures c.if-not-is_date.false-raw) (step_high _ c.if-step-gt-LONGEST_STEP.true))
+pub returns-then-not-is_step : goal.returns-then-not-is_step
+returns-then-not-is_step c =
+    sym
+    (next_bad_step _ _ _ _ _
+    (test_passed c.is_date.ensures c.if-not-is_date.false-raw)
+    (test_failed c.is_step.ensures c.if-not-is_step.true-raw))
 
 pub returns-then-n-eq0 : goal.returns-then-n-eq0
 returns-then-n-eq0 c =
     sym
     (next_bad_count _ _ _ _ _
     (test_passed c.is_date.ensures c.if-not-is_date.false-raw)
-    (step_good _ c.if-step-lt1.false c.if-step-gt-LONGEST_STEP.false)
+    (test_passed c.is_step.ensures c.if-not-is_step.false-raw)
     c.if-n-eq0.true)
 
 pub index_of-requires : goal.index_of-requires
@@ -40,13 +41,13 @@ counted s n h k = let l : s * n ≤ 120 * n = mul-le-mul_right n h in omega arit
 pub overflow_mul-far : goal.overflow_mul-far
 overflow_mul-far c =
     let args = c.args in
-    let l = counted args.step args.n c.if-step-gt-LONGEST_STEP.false (search rules) in
+    let l = counted args.step args.n (step_most _ (test_passed c.is_step.ensures c.if-not-is_step.false-raw)) (search rules) in
     omega arith
 
 pub overflow_add-far : goal.overflow_add-far
 overflow_add-far c =
     let args = c.args in
-    let l = counted args.step args.n c.if-step-gt-LONGEST_STEP.false (search rules) in
+    let l = counted args.step args.n (step_most _ (test_passed c.is_step.ensures c.if-not-is_step.false-raw)) (search rules) in
     omega arith
 
 pub returns-then-far : goal.returns-then-far
@@ -54,7 +55,7 @@ returns-then-far c =
     sym
     (next_too_late _ _ _ _ _
     (test_passed c.is_date.ensures c.if-not-is_date.false-raw)
-    (step_good _ c.if-step-lt1.false c.if-step-gt-LONGEST_STEP.false)
+    (test_passed c.is_step.ensures c.if-not-is_step.false-raw)
     c.if-n-eq0.false
     (omega arith))
 
@@ -72,6 +73,6 @@ returns c =
     ∙ sym
     (next_given _ _ _ _ _
     (test_passed c.is_date.ensures c.if-not-is_date.false-raw)
-    (step_good _ c.if-step-lt1.false c.if-step-gt-LONGEST_STEP.false)
+    (test_passed c.is_step.ensures c.if-not-is_step.false-raw)
     c.if-n-eq0.false
     (omega arith))

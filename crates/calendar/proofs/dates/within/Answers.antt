@@ -4,9 +4,8 @@ use Prim.Native.Nat.{ℕ, ◌+◌, ◌-◌, ◌≤◌, ◌<◌, min}
 use native.Mathlib.Omega.{arith}
 use mathlib.Core.Path.{◌≡◌, sym, ◌∙◌, ap, ap₂}
 use Rattle.months.specs.Months.{days_in, days_of, year_of, month_of, start}
-use Rattle.calendar.specs.Dates.{date_in}
+use Rattle.calendar.specs.Dates.{date_in, on}
 use Rattle.calendar.specs.Next.{day_within, numbered}
-use Rattle.calendar.specs.declared.answers.DateAnswer.TheVariants.{On}
 use Rattle.months.proofs.MonthLaws.{days_of_bounds}
 use Rattle.calendar.proofs.DateLaws.{end_small, number_in}
 use Rattle.calendar.proofs.AnswerLaws.{start_uncut}
@@ -30,13 +29,13 @@ said m d h k p q r =
 pub overflow_sub-result : goal.overflow_sub-result
 overflow_sub-result c =
     let w = said c.args.month c.args.day c.requires.0 c.requires.1 c.days_in_month-last.ensures
-    c.smaller-there.ensures c.month_start.ensures in
+    c.min-there.ensures c.month_start.ensures in
     omega (arith, w.least)
 
 pub overflow_add-result : goal.overflow_add-result
 overflow_add-result c =
     let w = said c.args.month c.args.day c.requires.0 c.requires.1 c.days_in_month-last.ensures
-    c.smaller-there.ensures c.month_start.ensures in
+    c.min-there.ensures c.month_start.ensures in
     omega (arith, w.small)
 
 pub returns : goal.returns
@@ -44,7 +43,7 @@ unfolding numbered
 returns c =
     let m = c.args.month in
     let w = said m c.args.day c.requires.0 c.requires.1 c.days_in_month-last.ensures
-    c.smaller-there.ensures c.month_start.ensures in
-    ap₂ On
+    c.min-there.ensures c.month_start.ensures in
+    ap₂ on
     (c.date_in.ensures ∙ ap (λ (t : ℕ). date_in m t) w.there)
     (ap₂ (λ (s t : ℕ). s + (t - 1)) w.begun w.there ∙ sym (number_in m _))
