@@ -21,15 +21,7 @@ fn crews_fit(book: &[u32], n: Counts) -> bool
     requires { (length book.now ≡ book_words) × Within n }
     ensures { result ≡ crews_fit n book.now }
 {
-    let count = n.crews;
-    let mut i = 0;
-    while i < count {
-        if !crew_fits(book, n, Crew::nth(i, count)) {
-            return false;
-        }
-        i += 1;
-    }
-    true
+    (0..n.crews).all(|i| crew_fits(book, n, Crew::nth(i, n.crews)))
 }
 
 // Whether every shelf of a depot is fit.
@@ -37,15 +29,7 @@ fn shelves_of_fit(book: &[u32], n: Counts, d: Depot) -> bool
     requires { (length book.now ≡ book_words) × Within n × (d.0 < most_depots) }
     ensures { result ≡ every n.shelves (shelf_fit n book.now d.0) }
 {
-    let count = n.shelves;
-    let mut i = 0;
-    while i < count {
-        if !shelf_fits(book, n, d, Shelf::nth(i, count)) {
-            return false;
-        }
-        i += 1;
-    }
-    true
+    (0..n.shelves).all(|i| shelf_fits(book, n, d, Shelf::nth(i, n.shelves)))
 }
 
 // Whether every shelf is fit.
@@ -53,42 +37,18 @@ fn shelves_fit(book: &[u32], n: Counts) -> bool
     requires { (length book.now ≡ book_words) × Within n }
     ensures { result ≡ shelves_fit n book.now }
 {
-    let count = n.depots;
-    let mut i = 0;
-    while i < count {
-        if !shelves_of_fit(book, n, Depot::nth(i, count)) {
-            return false;
-        }
-        i += 1;
-    }
-    true
+    (0..n.depots).all(|i| shelves_of_fit(book, n, Depot::nth(i, n.depots)))
 }
 
-// Whether the link of a shelf between two depots is fit; from a depot to itself there is none.
-fn link_between_fits(book: &[u32], n: Counts, s: Shelf, from: Depot, to: Depot) -> bool
-    requires { (length book.now ≡ book_words) × Within n × (s.0 < most_shelves) × (from.0 < most_depots) × (to.0 < most_depots) }
-    ensures { result ≡ eqb from.0 to.0 || link_fit n book.now s.0 from.0 (link_of s.0 from.0 to.0) }
-{
-    if from.index() == to.index() {
-        return true;
-    }
-    link_fits(book, n, s, from, Link::between(s, from, to))
-}
-
-// Whether every link of a shelf out of a depot is fit.
+// Whether every link of a shelf out of a depot is fit; from a depot to itself there is none.
 fn links_out_fit(book: &[u32], n: Counts, s: Shelf, from: Depot) -> bool
     requires { (length book.now ≡ book_words) × Within n × (s.0 < most_shelves) × (from.0 < most_depots) }
     ensures { result ≡ every n.depots (λ to. eqb from.0 to || link_fit n book.now s.0 from.0 (link_of s.0 from.0 to)) }
 {
-    let count = n.depots;
-    let mut i = 0;
-    while i < count {
-        if !link_between_fits(book, n, s, from, Depot::nth(i, count)) {
-            return false;
-        }
-        i += 1;
-    }
-    true
+    (0..n.depots).all(|i| {
+        let to = Depot::nth(i, n.depots);
+        from == to || link_fits(book, n, s, from, Link::between(s, from, to))
+    })
 }
 
 // Whether every link of a shelf is fit.
@@ -96,13 +56,10 @@ fn links_of_fit(book: &[u32], n: Counts, s: Shelf) -> bool
     requires { (length book.now ≡ book_words) × Within n × (s.0 < most_shelves) }
     ensures { result ≡ every n.depots (λ from. every n.depots (λ to. eqb from to || link_fit n book.now s.0 from (link_of s.0 from to))) }
 {
-    let count = n.depots;
-    let mut i = 0;
-    while i < count {
-        if !links_out_fit(book, n, s, Depot::nth(i, count)) {
+    for i in 0..n.depots {
+        if !links_out_fit(book, n, s, Depot::nth(i, n.depots)) {
             return false;
         }
-        i += 1;
     }
     true
 }
@@ -112,13 +69,10 @@ fn links_fit(book: &[u32], n: Counts) -> bool
     requires { (length book.now ≡ book_words) × Within n }
     ensures { result ≡ links_fit n book.now }
 {
-    let count = n.shelves;
-    let mut i = 0;
-    while i < count {
-        if !links_of_fit(book, n, Shelf::nth(i, count)) {
+    for i in 0..n.shelves {
+        if !links_of_fit(book, n, Shelf::nth(i, n.shelves)) {
             return false;
         }
-        i += 1;
     }
     true
 }
@@ -128,15 +82,7 @@ fn stores_of_fit(book: &[u32], n: Counts, d: Depot) -> bool
     requires { (length book.now ≡ book_words) × Within n × (d.0 < most_depots) }
     ensures { result ≡ every n.bearings (stored_fit n book.now d.0) }
 {
-    let count = n.bearings;
-    let mut i = 0;
-    while i < count {
-        if !stored_fits(book, n, d, Bearing::nth(i, count)) {
-            return false;
-        }
-        i += 1;
-    }
-    true
+    (0..n.bearings).all(|i| stored_fits(book, n, d, Bearing::nth(i, n.bearings)))
 }
 
 // Whether every stored version is fit.
@@ -144,35 +90,20 @@ fn stores_fit(book: &[u32], n: Counts) -> bool
     requires { (length book.now ≡ book_words) × Within n }
     ensures { result ≡ stores_fit n book.now }
 {
-    let count = n.depots;
-    let mut i = 0;
-    while i < count {
-        if !stores_of_fit(book, n, Depot::nth(i, count)) {
-            return false;
-        }
-        i += 1;
-    }
-    true
+    (0..n.depots).all(|i| stores_of_fit(book, n, Depot::nth(i, n.depots)))
 }
 
 // Whether every part but the counts is fit.
+#[tactic(auto, unfolding(fit::specs::Fit::parts_fit))]
 fn parts_fit(book: &[u32], n: Counts) -> bool
     requires { (length book.now ≡ book_words) × Within n }
     ensures { result ≡ parts_fit n book.now }
 {
-    if !homes_fit(book, n) {
-        return false;
-    }
-    if !crews_fit(book, n) {
-        return false;
-    }
-    if !shelves_fit(book, n) {
-        return false;
-    }
-    if !links_fit(book, n) {
-        return false;
-    }
-    stores_fit(book, n)
+    homes_fit(book, n)
+        && crews_fit(book, n)
+        && shelves_fit(book, n)
+        && links_fit(book, n)
+        && stores_fit(book, n)
 }
 
 // Whether a book is fit. Any length of slice and any words get an answer; no word is looked at twice.
@@ -183,8 +114,5 @@ pub fn is_fit(book: &[u32]) -> bool
         return false;
     }
     let n = counts_of(book);
-    if !counts_fit(n) {
-        return false;
-    }
-    parts_fit(book, n)
+    counts_fit(n) && parts_fit(book, n)
 }

@@ -1,8 +1,8 @@
--- `fit::whole::links_fit` meets its contract. The loop's invariant: what was passed is fit.
+-- `whole::links_fit` meets its contract. The loop's invariant: what was passed is fit.
 -- Assumes nothing.
 use Prim.Native.Nat.{ℕ}
 use native.Mathlib.Nat.{le_antisymm}
-use mathlib.Core.Path.{◌∙◌, refl, sym, ap}
+use mathlib.Core.Path.{◌∙◌, sym, ap}
 use Rattle.loops.specs.Loops.{every}
 use Rattle.loops.proofs.BoolLaws.{test_passed, test_failed}
 use Rattle.loops.proofs.LoopLaws.{every_none, every_more, every_stop}
@@ -10,11 +10,10 @@ use mathlib.Core.Bool.{◌||◌}
 use lib.Dec.{eqb}
 use Rattle.book.specs.Layout.{link_of}
 use Rattle.fit.specs.Fit.{link_fit, links_fit}
-use borrow.Author.Rules.{rules}
 use Rattle.whole.proofs.links_fit.Goals as goal
 
 pub loop-i-init : goal.loop-i-init
-loop-i-init c = (search rules, every_none _, refl)
+loop-i-init c = every_none _
 
 pub returns-then-not-links_of_fit : goal.returns-then-not-links_of_fit
 unfolding links_fit
@@ -28,16 +27,13 @@ returns-then-not-links_of_fit c =
 
 pub loop-i-preserved : goal.loop-i-preserved
 loop-i-preserved c =
-    let args = c.args in (
-      search rules,
-      every_more _ _ c.loop-i.invariant.1
-          (test_passed (c.links_of_fit.ensures
-          ∙ ap (λ (x : ℕ). every args.n.depots
-          (λ from. every args.n.depots (λ to. eqb from to || link_fit args.n args.book.now x from (link_of x from to))))
-          c.nth.ensures) c.if-not-links_of_fit.false-raw),
-      refl,
-    )
+    let args = c.args in
+    every_more _ _ c.loop-i.invariant
+    (test_passed (c.links_of_fit.ensures
+    ∙ ap (λ (x : ℕ). every args.n.depots
+    (λ from. every args.n.depots (λ to. eqb from to || link_fit args.n args.book.now x from (link_of x from to))))
+    c.nth.ensures) c.if-not-links_of_fit.false-raw)
 
 pub returns : goal.returns
 unfolding links_fit
-returns c = sym (rw (le_antisymm c.loop-i.invariant.0 c.loop-i-test.false) at c.loop-i.invariant.1)
+returns c = sym (rw (le_antisymm c.loop-i.auto.i-end c.loop-i-test.false) at c.loop-i.invariant)

@@ -1,6 +1,5 @@
--- What the loop keeps, and what falls. Answers.antt has the idea.
+-- What the loop keeps. Answers.antt has the idea.
 -- Assumes nothing.
-use Prim.Native.Nat.{◌≤◌, ◌-◌}
 use mathlib.Core.Path.{◌≡◌}
 use mathlib.Core.Bool.{true}
 use Rattle.loops.specs.Loops.{every}
@@ -11,7 +10,4 @@ use Rattle.fit.specs.Fit.{link_fit}
 use Rattle.whole.proofs.links_fit.Given as goal
 
 abbrev pub invariant-loop-i : goal.invariant-loop-i
-invariant-loop-i l = (l.i ≤ l.count) × (every l.i (λ x. every l.n.depots (λ from. every l.n.depots (λ to. eqb from to || link_fit l.n l.book x from (link_of x from to)))) ≡ true) × (l.count ≡ l.n.shelves)
-
-abbrev pub decreases-loop-i : goal.decreases-loop-i
-decreases-loop-i l = l.count - l.i
+invariant-loop-i l = every l.i (λ x. every l.n.depots (λ from. every l.n.depots (λ to. eqb from to || link_fit l.n l.book x from (link_of x from to)))) ≡ true

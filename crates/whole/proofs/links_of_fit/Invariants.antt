@@ -1,6 +1,5 @@
--- What the loop keeps, and what falls. Answers.antt has the idea.
+-- What the loop keeps. Answers.antt has the idea.
 -- Assumes nothing.
-use Prim.Native.Nat.{◌≤◌, ◌-◌}
 use mathlib.Core.Path.{◌≡◌}
 use mathlib.Core.Bool.{true}
 use Rattle.loops.specs.Loops.{every}
@@ -11,7 +10,4 @@ use Rattle.fit.specs.Fit.{link_fit}
 use Rattle.whole.proofs.links_of_fit.Given as goal
 
 abbrev pub invariant-loop-i : goal.invariant-loop-i
-invariant-loop-i l = (l.i ≤ l.count) × (every l.i (λ x. every l.n.depots (λ to. eqb x to || link_fit l.n l.book l.s.0 x (link_of l.s.0 x to))) ≡ true) × (l.count ≡ l.n.depots)
-
-abbrev pub decreases-loop-i : goal.decreases-loop-i
-decreases-loop-i l = l.count - l.i
+invariant-loop-i l = every l.i (λ x. every l.n.depots (λ to. eqb x to || link_fit l.n l.book l.s.0 x (link_of l.s.0 x to))) ≡ true

@@ -1,33 +1,10 @@
--- `fit::whole::shelves_of_fit` meets its contract. The loop's invariant: what was passed is fit.
+-- `whole::shelves_of_fit` meets its contract.
 -- Assumes nothing.
-use Prim.Native.Nat.{ℕ}
-use native.Mathlib.Nat.{le_antisymm}
-use mathlib.Core.Path.{◌∙◌, refl, sym, ap}
-use Rattle.loops.proofs.BoolLaws.{test_passed, test_failed}
-use Rattle.loops.proofs.LoopLaws.{every_none, every_more, every_stop}
-use Rattle.fit.specs.Fit.{shelf_fit}
+use mathlib.Core.Path.{refl}
 use borrow.Author.Rules.{rules}
+use borrow.Author.Tests.{tests}
+use Rattle.loops.proofs.ChainLaws.{every_from_all}
 use Rattle.whole.proofs.shelves_of_fit.Goals as goal
 
-pub loop-i-init : goal.loop-i-init
-loop-i-init c = (search rules, every_none _, refl)
-
-pub returns-then-not-shelf_fits : goal.returns-then-not-shelf_fits
-returns-then-not-shelf_fits c =
-    let args = c.args in
-    sym (every_stop _ _ _ c.loop-i-test.true
-    (test_failed (c.shelf_fits.ensures
-    ∙ ap (λ (x : ℕ). shelf_fit args.n args.book.now args.d.0 x) c.nth.ensures) c.if-not-shelf_fits.true-raw))
-
-pub loop-i-preserved : goal.loop-i-preserved
-loop-i-preserved c =
-    let args = c.args in (
-      search rules,
-      every_more _ _ c.loop-i.invariant.1
-          (test_passed (c.shelf_fits.ensures
-          ∙ ap (λ (x : ℕ). shelf_fit args.n args.book.now args.d.0 x) c.nth.ensures) c.if-not-shelf_fits.false-raw),
-      refl,
-    )
-
 pub returns : goal.returns
-returns c = sym (rw (le_antisymm c.loop-i.invariant.0 c.loop-i-test.false) at c.loop-i.invariant.1)
+returns c = every_from_all c.args.n.shelves _ c.all.result c.all.ensures.ran refl (λ x b q k. search (rules, tests))

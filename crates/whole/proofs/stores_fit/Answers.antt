@@ -1,36 +1,12 @@
--- `fit::whole::stores_fit` meets its contract. The loop's invariant: what was passed is fit.
+-- `whole::stores_fit` meets its contract.
 -- Assumes nothing.
-use Prim.Native.Nat.{ℕ}
-use native.Mathlib.Nat.{le_antisymm}
-use mathlib.Core.Path.{◌∙◌, refl, sym, ap}
-use Rattle.loops.specs.Loops.{every}
-use Rattle.loops.proofs.BoolLaws.{test_passed, test_failed}
-use Rattle.loops.proofs.LoopLaws.{every_none, every_more, every_stop}
-use Rattle.fit.specs.Fit.{stored_fit, stores_fit}
+use mathlib.Core.Path.{refl}
 use borrow.Author.Rules.{rules}
+use borrow.Author.Tests.{tests}
+use Rattle.loops.proofs.ChainLaws.{every_from_all}
+use Rattle.fit.specs.Fit.{stores_fit}
 use Rattle.whole.proofs.stores_fit.Goals as goal
-
-pub loop-i-init : goal.loop-i-init
-loop-i-init c = (search rules, every_none _, refl)
-
-pub returns-then-not-stores_of_fit : goal.returns-then-not-stores_of_fit
-unfolding stores_fit
-returns-then-not-stores_of_fit c =
-    let args = c.args in
-    sym (every_stop _ _ _ c.loop-i-test.true
-    (test_failed (c.stores_of_fit.ensures
-    ∙ ap (λ (x : ℕ). every args.n.bearings (stored_fit args.n args.book.now x)) c.nth.ensures) c.if-not-stores_of_fit.true-raw))
-
-pub loop-i-preserved : goal.loop-i-preserved
-loop-i-preserved c =
-    let args = c.args in (
-      search rules,
-      every_more _ _ c.loop-i.invariant.1
-          (test_passed (c.stores_of_fit.ensures
-          ∙ ap (λ (x : ℕ). every args.n.bearings (stored_fit args.n args.book.now x)) c.nth.ensures) c.if-not-stores_of_fit.false-raw),
-      refl,
-    )
 
 pub returns : goal.returns
 unfolding stores_fit
-returns c = sym (rw (le_antisymm c.loop-i.invariant.0 c.loop-i-test.false) at c.loop-i.invariant.1)
+returns c = every_from_all c.args.n.depots _ c.all.result c.all.ensures.ran refl (λ x b q k. search (rules, tests))
