@@ -32,12 +32,8 @@ fn put_words(out: &mut [u8], at: usize, m: &[u32], depots: usize)
     requires { (length m.now ≡ slot_words) × (depots ≤ most_depots) × (at + 12 + 4 * depots ≤ length out.old) }
     ensures { out.new ≡ put out.old at (joined (3 + depots) (λ i. word_bytes (sent_word m.now i))) }
 {
-    let count = PLAIN + depots;
-    let mut i = 0;
-    while i < count {
-        let w = sent_word(m, i);
-        put_word(out, at + 4 * i, w);
-        i += 1;
+    for i in 0..PLAIN + depots {
+        put_word(out, at + 4 * i, sent_word(m, i));
     }
 }
 
@@ -65,10 +61,8 @@ pub fn size_of_frame(book: &[u32], q: Link, taken: usize, count: usize, depots: 
     ensures { result ≡ place_of depots count (λ i. slot book.now q.0 (taken + i)) count }
 {
     let mut at = FRONT + OFFSET * count;
-    let mut i = 0;
-    while i < count {
+    for i in 0..count {
         at += size_of(depots, book[q.slot_at(taken + i)]);
-        i += 1;
     }
     at
 }
@@ -79,11 +73,9 @@ fn put_offsets(out: &mut [u8], book: &[u32], q: Link, taken: usize, count: usize
     ensures { out.new ≡ put out.old 4 (offsets_of depots count (λ i. slot book.now q.0 (taken + i))) }
 {
     let mut at = FRONT + OFFSET * count;
-    let mut i = 0;
-    while i < count {
+    for i in 0..count {
         put_half(out, FRONT + OFFSET * i, at);
         at += size_of(depots, book[q.slot_at(taken + i)]);
-        i += 1;
     }
 }
 
@@ -94,13 +86,11 @@ fn put_messages(out: &mut [u8], book: &[u32], q: Link, taken: usize, count: usiz
     ensures { out.new ≡ put out.old (body_at count) (messages_of depots count (λ i. slot book.now q.0 (taken + i))) }
 {
     let mut at = FRONT + OFFSET * count;
-    let mut i = 0;
-    while i < count {
+    for i in 0..count {
         let from = q.slot_at(taken + i);
         let end = from + SLOT_WORDS;
         put_message(out, at, &book[from..end], depots);
         at += size_of(depots, book[from]);
-        i += 1;
     }
 }
 

@@ -96,13 +96,11 @@ fn messages_are_right(f: &[u8], way: Route, count: usize) -> bool
     let n = way.counts;
     let depots = n.depots;
     let mut at = FRONT + OFFSET * count;
-    let mut i = 0;
-    while i < count {
+    for i in 0..count {
         if !message_is_right(f, way, i, at) {
             return false;
         }
         at += size_of(depots, word_of_byte(f[at]));
-        i += 1;
     }
     at == f.len()
 }

@@ -27,12 +27,10 @@ fn hand_out(f: &[u8], way: Route, count: usize, out: &mut [u32])
     let n = way.counts;
     let depots = n.depots;
     let mut at = FRONT + OFFSET * count;
-    let mut i = 0;
-    while i < count {
+    for i in 0..count {
         let m = message_at(f, way, at);
         write_words(out, SLOT_WORDS * i, &m);
         at += size_of(depots, word_of_byte(f[at]));
-        i += 1;
     }
 }
 
@@ -77,8 +75,8 @@ fn read_at(
     requires { (base_fit book.now ≡ true) × (d.0 < (counts_of book.now).depots) × (from.0 < (counts_of book.now).depots) × (s.0 < (counts_of book.now).shelves) }
     ensures { WasRead book.now d.0 s.0 from.0 expected f.now out.old result out.new }
 {
-    if d.index() == from.index() {
-        return Err(FrameRefusal::Link(Refusal::SameDepot));
+    if d == from {
+        return FrameAnswer::Refused(FrameRefusal::Link(Refusal::SameDepot));
     }
     let n = counts_of(book);
     read_on(

@@ -36,25 +36,14 @@ fn refused(r: Refusal) -> ListAnswer
 fn is_list(bearings: &[u32]) -> bool
     ensures { result ≡ is_list bearings.now }
 {
-    let count = bearings.len();
-    if count < 1 {
-        return false;
-    }
-    count <= MOST_LISTED
+    1 <= bearings.len() && bearings.len() <= MOST_LISTED
 }
 
 // Whether every bearing of a list is below the count.
 fn all_below(bearings: &[u32], count: usize) -> bool
     ensures { result ≡ all_below count bearings.now }
 {
-    let mut i = 0;
-    while i < bearings.len() {
-        if count <= wide(bearings[i]) {
-            return false;
-        }
-        i += 1;
-    }
-    true
+    (0..bearings.len()).all(|i| wide(bearings[i]) < count)
 }
 
 fn list_at(book: &mut [u32], c: Crew, bearings: &[u32]) -> ListAnswer

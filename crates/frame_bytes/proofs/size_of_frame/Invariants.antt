@@ -1,13 +1,10 @@
--- What the loop keeps, and what falls. Answers.antt has the idea.
+-- What the loop keeps. Answers.antt has the idea.
 -- Assumes nothing.
-use Prim.Native.Nat.{◌+◌, ◌≤◌, ◌-◌}
+use Prim.Native.Nat.{◌+◌}
 use mathlib.Core.Path.{◌≡◌}
 use Rattle.book.specs.Layout.{slot}
 use Rattle.frame.specs.Frame.{place_of}
 use Rattle.frame_bytes.proofs.size_of_frame.Given as goal
 
 abbrev pub invariant-loop-i : goal.invariant-loop-i
-invariant-loop-i l = (l.i ≤ l.count) × (l.at ≡ place_of l.depots l.count (λ j. slot l.book l.q.0 (l.taken + j)) l.i)
-
-abbrev pub decreases-loop-i : goal.decreases-loop-i
-decreases-loop-i l = l.count - l.i
+invariant-loop-i l = l.at ≡ place_of l.depots l.count (λ j. slot l.book l.q.0 (l.taken + j)) l.i

@@ -1,17 +1,14 @@
 -- `frame_form::messages_are_right` meets its contract. The loop's invariant: the messages passed are right, and the next begins at `at`.
 -- Assumes nothing.
-use Prim.Native.Nat.{◌-◌}
 use native.Mathlib.Omega.{arith}
 use native.Mathlib.Nat.{le_antisymm}
 use mathlib.Core.Path.{◌≡◌, ◌∙◌, sym, ap}
-use mathlib.Core.Bool.{true}
 use lib.ListN.{get_or}
 use Rattle.loops.proofs.BoolLaws.{and_stop, test_passed, test_failed}
 use Rattle.loops.proofs.LoopLaws.{every_none, every_more, every_stop}
 use Rattle.frame.specs.Frame.{size_of, start_in, message_right}
 use Rattle.frame.proofs.DecodeLaws.{At, message_says}
 use Rattle.frame_form.proofs.FormLaws.{start_none, start_more, right_ends, all_right}
-use borrow.Author.Rules.{rules}
 use Rattle.frame_form.proofs.messages_are_right.Goals as goal
 use Rattle.frame_form.proofs.messages_are_right.Lts as lts
 use Rattle.frame_form.proofs.messages_are_right.Tie as tie
@@ -34,7 +31,7 @@ one_said :
     c.message_is_right.result ≡ message_right args.way args.f.now c.loop-i.i (start_in args.way.counts.depots args.f.now c.loop-i.i)
 one_said c =
     let args = c.args in c.message_is_right.ensures ∙ ap
-    (message_right args.way args.f.now c.loop-i.i) c.loop-i.invariant.1
+    (message_right args.way args.f.now c.loop-i.i) c.loop-i.invariant.0
 
 -- the message that passed
 passed :
@@ -48,7 +45,7 @@ size_is :
 size_is c = c.size_of-at.ensures ∙ ap (size_of c.args.way.counts.depots) c.word_of_byte.ensures
 
 pub loop-i-init : goal.loop-i-init
-loop-i-init c = (search rules, start_none _ _ c.requires.1, every_none _, c.requires.2)
+loop-i-init c = (start_none _ _ c.requires.1, every_none _, c.requires.2)
 
 pub message_is_right-requires : goal.message_is_right-requires
 message_is_right-requires c = (c.requires.0, omega (arith, c.requires.2, c.loop-i-test.true))
@@ -69,9 +66,8 @@ overflow_add-at-in-loop-i c = omega (arith, (passed c.before.before.before.befor
 pub loop-i-preserved : goal.loop-i-preserved
 loop-i-preserved c =
     let loop = c.loop-i in (
-      search rules,
-      start_more _ _ _ loop.invariant.1 (size_is c.before),
-      every_more _ _ loop.invariant.2 (test_passed (one_said c.before.before.before.before.before) c.if-not-message_is_right.false-raw),
+      start_more _ _ _ loop.invariant.0 (size_is c.before),
+      every_more _ _ loop.invariant.1 (test_passed (one_said c.before.before.before.before.before) c.if-not-message_is_right.false-raw),
       omega (arith, (passed c.before.before.before.before).ends, size_is c.before),
     )
 
@@ -79,5 +75,5 @@ pub returns : goal.returns
 returns c =
     let args = c.args in
     let loop = c.loop-i in
-    let e = le_antisymm loop.invariant.0 c.loop-i-test.false ∙ c.requires.1 in
-    right_ends args.way args.f.now (sym (all_right _ _ e) ∙ loop.invariant.2) (loop.invariant.1 ∙ ap (start_in args.way.counts.depots args.f.now) e)
+    let e = le_antisymm loop.auto.i-end c.loop-i-test.false ∙ c.requires.1 in
+    right_ends args.way args.f.now (sym (all_right _ _ e) ∙ loop.invariant.1) (loop.invariant.0 ∙ ap (start_in args.way.counts.depots args.f.now) e)

@@ -1,6 +1,6 @@
--- What the loop keeps, and what falls. Answers.antt has the idea.
+-- What the loop keeps. Answers.antt has the idea.
 -- Assumes nothing.
-use Prim.Native.Nat.{◌≤◌, ◌-◌}
+use Prim.Native.Nat.{◌≤◌}
 use mathlib.Core.Path.{◌≡◌}
 use mathlib.Core.Bool.{true}
 use lib.ListN.{length}
@@ -10,7 +10,4 @@ use Rattle.frame_form.proofs.messages_are_right.Given as goal
 
 abbrev pub invariant-loop-i : goal.invariant-loop-i
 invariant-loop-i l =
-    (l.i ≤ l.count) × (l.at ≡ start_in l.way.counts.depots l.f l.i) × (every l.i (λ j. message_right l.way l.f j (start_in l.way.counts.depots l.f j)) ≡ true) × (l.at ≤ length l.f)
-
-abbrev pub decreases-loop-i : goal.decreases-loop-i
-decreases-loop-i l = l.count - l.i
+    (l.at ≡ start_in l.way.counts.depots l.f l.i) × (every l.i (λ j. message_right l.way l.f j (start_in l.way.counts.depots l.f j)) ≡ true) × (l.at ≤ length l.f)

@@ -1,8 +1,7 @@
 -- `frame_reader::hand_out` meets its contract. The loop's invariant: the words of the messages passed stand in the buffer, and the next begins at `at`.
 -- Assumes nothing.
-use Rattle.std.proofs.Common.{◌≡◌, ℕ, ◌+◌, ◌-◌, ◌*◌, List, length, get_or, sym, refl, ap, ◌∙◌, le_antisymm, zero-add, arith, rules}
+use Rattle.std.proofs.Common.{◌≡◌, ℕ, ◌+◌, ◌*◌, List, length, get_or, sym, ap, ◌∙◌, le_antisymm, zero-add, arith}
 use Rattle.book.specs.Words.{put}
-use Rattle.book.proofs.WordsLaws.{length_put}
 use Rattle.wire.specs.Wire.{joined}
 use Rattle.wire.proofs.WireLaws.{joined_long, put_none, put_run}
 use Rattle.frame.specs.Frame.{size_of, start_in, message_at, body_in}
@@ -22,7 +21,7 @@ abbrev After-size_of-at : Type 0
 After-size_of-at = lts.After-size_of tie.the-claims reads.Pre reads.Post goal.the-invariant-loop-i goal.the-decreases-loop-i
 
 there : (c : In-loop-i) → let args = c.args in There args.way args.f.now c.loop-i.at
-there c = let pre = c.requires in there_at _ _ c.loop-i.i pre.0 pre.1 (omega (arith, c.loop-i-test.true, pre.2)) c.loop-i.invariant.1
+there c = let pre = c.requires in there_at _ _ c.loop-i.i pre.0 pre.1 (omega (arith, c.loop-i-test.true, pre.2)) c.loop-i.invariant.0
 
 size_is :
     (c : After-size_of-at) →
@@ -32,7 +31,7 @@ size_is c = c.size_of-at.ensures ∙ ap
     (size_of c.args.way.counts.depots) c.word_of_byte.ensures
 
 pub loop-i-init : goal.loop-i-init
-loop-i-init c = (search rules, start_none _ _ c.requires.2, refl, put_none _ 0 _)
+loop-i-init c = (start_none _ _ c.requires.2, put_none _ 0 _)
 
 pub message_at-m-requires : goal.message_at-m-requires
 message_at-m-requires c = there c.before
@@ -42,7 +41,7 @@ write_words-requires c =
     let loop = c.loop-i in
     omega (
       arith,
-      loop.invariant.2,
+      loop.auto.out,
       c.loop-i-test.true,
       c.requires.3,
       ap length c.message_at-m.ensures
@@ -61,11 +60,9 @@ loop-i-preserved c =
     let loop = c.loop-i in
     let G : ℕ → List ℕ = λ j. message_at args.way args.f.now (start_in args.way.counts.depots args.f.now j) in
     let ten : 10 * loop.i ≡ 0 + length (joined loop.i G) = sym (zero-add _ ∙ joined_long loop.i 10 G (λ j. message_ten _ _ _)) in (
-      search rules,
-      start_more _ _ _ loop.invariant.1 (size_is c.before),
-      ap length c.write_words.ensures ∙ length_put _ _ _ ∙ loop.invariant.2,
-      put_run _ 0 loop.i G loop.invariant.3 ten (c.message_at-m.ensures ∙ ap
-          (message_at args.way args.f.now) loop.invariant.1) c.write_words.ensures,
+      start_more _ _ _ loop.invariant.0 (size_is c.before),
+      put_run _ 0 loop.i G loop.invariant.1 ten (c.message_at-m.ensures ∙ ap
+          (message_at args.way args.f.now) loop.invariant.0) c.write_words.ensures,
     )
 
 pub returns : goal.returns
@@ -73,6 +70,6 @@ unfolding body_in
 returns c =
     let args = c.args in
     let loop = c.loop-i in
-    loop.invariant.3
+    loop.invariant.1
     ∙ ap (λ (n : ℕ). put args.out.now 0 (joined n (λ j. message_at args.way args.f.now (start_in args.way.counts.depots args.f.now j))))
-    (le_antisymm loop.invariant.0 c.loop-i-test.false ∙ c.requires.2)
+    (le_antisymm loop.auto.i-end c.loop-i-test.false ∙ c.requires.2)

@@ -1,6 +1,6 @@
--- What the loop keeps, and what falls. Answers.antt has the idea.
+-- What the loop keeps. Answers.antt has the idea.
 -- Assumes nothing.
-use Rattle.std.proofs.Common.{◌≡◌, ◌-◌, ◌≤◌, length}
+use Rattle.std.proofs.Common.{◌≡◌}
 use Rattle.book.specs.Words.{put}
 use Rattle.wire.specs.Wire.{joined}
 use Rattle.frame.specs.Frame.{start_in, message_at}
@@ -8,10 +8,5 @@ use Rattle.frame_reader.proofs.hand_out.Given as goal
 
 abbrev pub invariant-loop-i : goal.invariant-loop-i
 invariant-loop-i l =
-    (l.i ≤ l.count)
-    × (l.at ≡ start_in l.way.counts.depots l.f l.i)
-    × (length l.out ≡ length l.initial.out)
+    (l.at ≡ start_in l.way.counts.depots l.f l.i)
     × (l.out ≡ put l.initial.out 0 (joined l.i (λ j. message_at l.way l.f (start_in l.way.counts.depots l.f j))))
-
-abbrev pub decreases-loop-i : goal.decreases-loop-i
-decreases-loop-i l = l.count - l.i

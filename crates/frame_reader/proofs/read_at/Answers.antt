@@ -1,6 +1,7 @@
 -- `frame_reader::read_at` meets its contract: another depot, then the frame.
 -- Assumes nothing.
-use Rattle.std.proofs.Common.{length, sym, ◌∙◌, subst}
+use Rattle.std.proofs.Common.{length, sym, subst}
+use borrow.Author.Tests.{true-eqb, false-eqb}
 use Rattle.paper.specs.Calls.{first}
 use Rattle.paper.specs.Answers.{number_of}
 use Rattle.paper.specs.declared.answer.Refusal.TheVariants.{SameDepot}
@@ -14,12 +15,12 @@ use Rattle.frame.specs.Promises.{frame_number, Outcome, Ready, arrival_rows}
 use Rattle.frame.proofs.PromiseLaws.{refused_as, outcome_same, route_ready, reader_same, reader_on}
 use Rattle.frame_reader.proofs.read_at.Goals as goal
 
-pub returns-then-index : goal.returns-then-index
+pub returns-then-eq : goal.returns-then-eq
 unfolding frame_number number_of
-returns-then-index c =
+returns-then-eq c =
     let pre = c.requires in
     refused_as (Link SameDepot) _ _ _
-    (reader_same _ _ _ _ _ _ _ pre.0 pre.1 pre.2 pre.3 (sym c.index.ensures ∙ c.if-index.true ∙ c.index-2.ensures))
+    (reader_same _ _ _ _ _ _ _ pre.0 pre.1 pre.2 pre.3 (true-eqb _ _ c.if-eq.ensures))
 
 pub counts_of-n-requires : goal.counts_of-n-requires
 counts_of-n-requires c = (base_open _ c.requires.0).full
@@ -40,7 +41,6 @@ returns c =
     let call = c.read_on in
     let way : Counts → Route = λ n. record { counts = n; shelf = args.s; from = args.from; to = args.d } in
     outcome_same
-    (reader_on _ _ _ _ _ _ _ pre.0 pre.1 pre.2 pre.3 (λ e. c.if-index.false
-    (c.index.ensures ∙ e ∙ sym c.index-2.ensures)))
+    (reader_on _ _ _ _ _ _ _ pre.0 pre.1 pre.2 pre.3 (false-eqb _ _ c.if-eq.ensures))
     (subst (λ (n : Counts). Outcome (first (arrival_rows (way n) args.expected f (length o))) (count_in f) (put o 0 (body_in (way n) f)) o call.result
     call.new.out) c.counts_of-n.ensures call.ensures)
