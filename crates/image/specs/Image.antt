@@ -1,6 +1,6 @@
 -- An image of a book, as docs/JOURNAL.md tells it: eight numbers of header, the words of the book, and nothing else; when one is saved and when loaded.
 -- Assumes nothing.
-use Rattle.std.specs.Prelude.{ℕ, ◌≡◌, Bool, true, false, ◌&&◌, not, List, [], ◌∷◌, ◌++◌, eqb, ltb, length}
+use Rattle.std.specs.Prelude.{ℕ, ◌≡◌, Bool, true, false, ◌&&◌, not, List, [], ◌∷◌, ◌++◌, eqb, ltb, length, Result, Ok, Err}
 use Rattle.loops.specs.Loops.{pick}
 use Rattle.paper.specs.Calls.{first}
 use Rattle.room.specs.Room.{no_room}
@@ -9,6 +9,8 @@ use Rattle.book.specs.Layout.{book_words, counts_of}
 use Rattle.fit.specs.Fit.{fit}
 use Rattle.wire.specs.Wire.{word_limit, Below}
 use Rattle.numbers.specs.Numbers.{bytes_of, words_at}
+use Rattle.image.specs.declared.ImageRefusal.{ImageRefusal}
+use Rattle.image.specs.declared.ImageRefusal.TheVariants.{NoRoom, BadBook, BadImage}
 
 -- how many bytes an image has
 abbrev pub image_bytes : ℕ
@@ -42,6 +44,17 @@ same (a ∷ u) (b ∷ v) = eqb a b && same u v
 unfoldable pub head_right : List ℕ → Bool
 head_right f = eqb (length f) image_bytes && same (words_at f 0 8) (image_head (book_in f))
 
+-- the number of a refusal
+unfoldable pub image_number : ImageRefusal → ℕ
+image_number NoRoom = no_room
+image_number BadBook = 1
+image_number BadImage = bad_image
+
+-- the number of an answer: 0 where it is done, else the refusal's
+unfoldable pub number_in : Result Unit ImageRefusal → ℕ
+number_in (Ok x) = 0
+number_in (Err r) = image_number r
+
 -- the number of saving the book l into room for n bytes
 unfoldable pub save_number : List ℕ → ℕ → ℕ
 save_number l n = first ((not (fit l), 1) ∷ (ltb n image_bytes, no_room) ∷ [])
@@ -66,12 +79,12 @@ pub record ImageOf (f l : List ℕ) : Type 0 where
 
 -- ---- the promises
 
--- saving the book l into the buffer o answers r and leaves the buffer o'
+-- saving the book l into the buffer o answers by the number r and leaves the buffer o'
 pub record Saving (l o : List ℕ) (r : ℕ) (o' : List ℕ) : Type 0 where
   pub answer : r ≡ save_number l (length o)
   pub buffer : o' ≡ saved l o
 
--- loading the bytes f into the book l answers r and leaves the book l'
+-- loading the bytes f into the book l answers by the number r and leaves the book l'
 pub record Loading (l f : List ℕ) (r : ℕ) (l' : List ℕ) : Type 0 where
   pub answer : r ≡ load_number f (length l)
   pub book : l' ≡ loaded f l

@@ -4,7 +4,7 @@
 ghost use Rattle.std.specs.Prelude.{◌≡◌, length};
 ghost use Rattle.book.specs.Layout.{book_words};
 ghost use Rattle.numbers.specs.Numbers.{words_at};
-ghost use Rattle.image.specs.Image.{image_bytes, image_head, same, Saving, Loading};
+ghost use Rattle.image.specs.Image.{image_bytes, image_head, same, image_number, number_in, Saving, Loading};
 
 use book::layout::{BEARINGS, BOOK_WORDS, CREWS, DEPOTS, SHELVES};
 use book::words::write_words;
@@ -23,10 +23,36 @@ const HEAD_WORDS: usize = 8;
 // "IMG1": this layout.
 const MARK: u32 = 826756425;
 
-// The numbers of the refusals besides NO ROOM: a book that is not fit, and bytes that are no image.
-pub const BAD_BOOK: u32 = 1;
+// Why an image was not saved, or a book not loaded: a buffer too short or a book of another length, a book that is not fit, bytes that are no image.
+#[derive(Clone, Copy)]
+pub enum ImageRefusal {
+    NoRoom,
+    BadBook,
+    BadImage,
+}
 
-pub const BAD_IMAGE: u32 = 112;
+// The number of a refusal.
+#[tactic(auto, unfolding(crate::specs::Image::image_number))]
+pub fn image_number(refusal: ImageRefusal) -> u32
+    ensures { result ≡ image_number refusal }
+{
+    match refusal {
+        ImageRefusal::NoRoom => NO_ROOM,
+        ImageRefusal::BadBook => 1,
+        ImageRefusal::BadImage => 112,
+    }
+}
+
+// The number of an answer: 0 is done.
+#[tactic(auto, unfolding(crate::specs::Image::number_in))]
+pub fn number_in(answer: Result<(), ImageRefusal>) -> u32
+    ensures { result ≡ number_in answer }
+{
+    match answer {
+        Ok(()) => 0,
+        Err(refusal) => image_number(refusal),
+    }
+}
 
 // Whether two runs of words, as long as each other, are the same.
 fn same_words(a: &[u32], b: &[u32]) -> bool
@@ -72,46 +98,46 @@ fn head_is(image: &[u8], book: &[u32]) -> bool
 }
 
 // The image of a book stands in the buffer from its first byte on. Refuses, in this order: BAD BOOK, NO ROOM.
-pub fn save(book: &[u32], out: &mut [u8]) -> u32
-    ensures { Saving book.now out.old result out.new }
+pub fn save(book: &[u32], out: &mut [u8]) -> Result<(), ImageRefusal>
+    ensures { Saving book.now out.old (number_in result) out.new }
 {
     if !is_fit(book) {
-        return BAD_BOOK;
+        return Err(ImageRefusal::BadBook);
     }
     if out.len() < IMAGE_BYTES {
-        return NO_ROOM;
+        return Err(ImageRefusal::NoRoom);
     }
     let head = head_of(book);
     put_words(out, 0, &head);
     put_words(out, HEAD_BYTES, book);
-    0
+    Ok(())
 }
 
 // Loads an image of the right length by way of `words`, where its book is judged: so a refusal moves no word of the book lent.
-fn load_judged(book: &mut [u32], image: &[u8], words: &mut [u32]) -> u32
+fn load_judged(book: &mut [u32], image: &[u8], words: &mut [u32]) -> Result<(), ImageRefusal>
     requires { (length book.old ≡ book_words) × (length image.now ≡ image_bytes) × (length words.old ≡ book_words) }
-    ensures { Loading book.old image.now result book.new }
+    ensures { Loading book.old image.now (number_in result) book.new }
 {
     read_words(image, HEAD_BYTES, words);
     if !head_is(image, words) {
-        return BAD_IMAGE;
+        return Err(ImageRefusal::BadImage);
     }
     if !is_fit(words) {
-        return BAD_BOOK;
+        return Err(ImageRefusal::BadBook);
     }
     write_words(book, 0, words);
-    0
+    Ok(())
 }
 
 // The book becomes that of an image, any bytes. Refuses, in this order: NO ROOM, where the book lent has another length; BAD IMAGE; BAD BOOK.
-pub fn load(book: &mut [u32], image: &[u8]) -> u32
-    ensures { Loading book.old image.now result book.new }
+pub fn load(book: &mut [u32], image: &[u8]) -> Result<(), ImageRefusal>
+    ensures { Loading book.old image.now (number_in result) book.new }
 {
     if book.len() != BOOK_WORDS {
-        return NO_ROOM;
+        return Err(ImageRefusal::NoRoom);
     }
     if image.len() != IMAGE_BYTES {
-        return BAD_IMAGE;
+        return Err(ImageRefusal::BadImage);
     }
     let mut words = [0u32; BOOK_WORDS];
     load_judged(book, image, &mut words)

@@ -3,7 +3,7 @@ ghost use Rattle.stream.specs.Stream.{Began};
 
 use crate::files::{PATH_ROOM, open_read};
 use crate::tell::{tell, tell_failure, tell_file, tell_unnamed};
-use image::{BAD_BOOK, IMAGE_BYTES, load};
+use image::{IMAGE_BYTES, ImageRefusal, load};
 use std::env::Env;
 use std::fs::Files;
 use std::io::Read;
@@ -11,27 +11,26 @@ use std::io::Read;
 // One byte more than an image has: a file that is longer is seen to be.
 const ROOM: usize = IMAGE_BYTES + 1;
 
-// The book becomes that of an image, any bytes; where they are none, it is as it was. The number.
-fn load_on(book: &mut [u32], bytes: &[u8]) -> u32
+// The book becomes that of an image, any bytes; where they are none, it is as it was.
+fn load_on(book: &mut [u32], bytes: &[u8]) -> Result<(), ImageRefusal>
     requires { Began book.old }
     ensures { Began book.new }
 {
     load(book, bytes)
 }
 
-// Whether an image was loaded, by the number of loading it; else a line says why not.
-fn is_loaded(notes: &impl Print, path: &[u8], number: u32) -> bool {
-    if number == 0 {
+// Whether an image was loaded; else a line says why not.
+fn is_loaded(notes: &impl Print, path: &[u8], answer: Result<(), ImageRefusal>) -> bool {
+    let Err(refusal) = answer else {
         return true;
-    }
+    };
     tell_file(notes, path);
-    if number == BAD_BOOK {
-        tell(
+    match refusal {
+        ImageRefusal::BadBook => tell(
             notes,
             b"it has the form of an image, and its book is not fit (1)\n",
-        );
-    } else {
-        tell(notes, b"it is no image of a book (112)\n");
+        ),
+        _ => tell(notes, b"it is no image of a book (112)\n"),
     }
     false
 }
@@ -44,8 +43,8 @@ fn load_open<F: Read>(notes: &impl Print, path: &[u8], file: &mut F, book: &mut 
     let mut bytes = [0u8; ROOM];
     match file.read(&mut bytes) {
         Ok(n) => {
-            let number = load_on(book, &bytes[..n]);
-            is_loaded(notes, path, number)
+            let answer = load_on(book, &bytes[..n]);
+            is_loaded(notes, path, answer)
         }
         Err(error) => {
             tell_failure(notes, path, &error);

@@ -110,15 +110,13 @@ fn save_named<R: Files + Env>(rt: &R, notes: &impl Print, bytes: &[u8]) {
 // The image of a book is saved there, if something was set up.
 fn save_book<R: Files + Env>(rt: &R, notes: &impl Print, book: &[u32]) {
     let mut bytes = [0u8; IMAGE_BYTES];
-    let number = save(book, &mut bytes);
-    if number == 0 {
-        save_named(rt, notes, &bytes);
-        return;
+    match save(book, &mut bytes) {
+        Ok(()) => save_named(rt, notes, &bytes),
+        Err(_) => tell(
+            notes,
+            b"desk: no register is set up (1): nothing was written\n",
+        ),
     }
-    tell(
-        notes,
-        b"desk: no register is set up (1): nothing was written\n",
-    );
 }
 
 // Whether the records of the journal at a path were done on the book, without a fault; else a line says why not. The journal stays as it is.
