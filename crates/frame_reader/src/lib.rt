@@ -10,7 +10,7 @@ ghost use Rattle.frame.specs.Frame.{count_in, formed, body_in};
 ghost use Rattle.frame.specs.Promises.{Ready, Outcome, arrival_rows, WasRead};
 
 use book::layout::SLOT_WORDS;
-use book::numbers::{Depot, Numbered, Shelf};
+use book::numbers::{Depot, Shelf};
 use book::parts::counts_of;
 use book::words::write_words;
 use frame::{FRONT, FrameRefusal, OFFSET, Route, size_of};
