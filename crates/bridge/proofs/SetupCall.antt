@@ -7,6 +7,7 @@ use mathlib.Core.Bool.{Bool, true, false, not, ◌&&◌, ◌||◌}
 use mathlib.Core.List.{List}
 use lib.Dec.{eqb, ltb}
 use lib.ListN.{length, get_or}
+use Rattle.std.proofs.Common.{Result}
 use borrow.Author.Tests.{eq-eqb, ne_eqb}
 use Rattle.loops.specs.Loops.{every, pick}
 use Rattle.loops.proofs.BoolLaws.{pick_true, pick_false}
@@ -17,7 +18,7 @@ use Rattle.fit.proofs.FitLaws.{counts_within}
 use Rattle.register.specs.Calls.{set_up}
 use Rattle.register.specs.Promises.{after, Setup}
 use Rattle.register.specs.Table as table
-use Rattle.paper.specs.declared.answer.Answer as plain
+use Rattle.paper.specs.declared.answer.Refusal.{Refusal}
 use Rattle.paper.specs.Answers.{paper}
 use Rattle.upkeep.proofs.FitSetup.{setup_fit}
 use Rattle.paper.specs.Calls.{done, first, answer_by}
@@ -44,7 +45,7 @@ module _ (l : List ℕ) (full : length l ≡ book_words) (n : Counts) (homes : L
       ∙ ap (λ (t : Bool). pick t 11 (pick (not (every n.crews (λ c. ltb (get_or homes c 0) n.depots))) 2 0))
       (one_test (between 1 n.depots 4) (between 1 n.shelves 4) (between 1 n.bearings most_bearings) (between 1 n.crews 16) (eqb (length homes) n.crews))
 
-  pub setup_bridge : (r : plain.Answer) (l' : List ℕ) → Setup l n homes r l' → BridgedSetup l n homes (paper r) l'
+  pub setup_bridge : (r : Result Unit Refusal) (l' : List ℕ) → Setup l n homes r l' → BridgedSetup l n homes (paper r) l'
   unfolding after
   setup_bridge r l' t = record {
     answers = t.answer ∙ ap (λ (k : ℕ). answer_by k done) setup_number_law;

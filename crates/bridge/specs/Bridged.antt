@@ -1,16 +1,16 @@
 -- What the bridge says of one call: asked of a fit book l, it answers as the model does, and leaves a book l' that is fit and whose view is the
 -- state that the model's step leaves of the view of l. The counts stay.
 -- Assumes nothing.
-use Rattle.std.specs.Prelude.{ℕ, ◌≡◌, true, List, length}
+use Rattle.std.specs.Prelude.{ℕ, ◌≡◌, true, List, length, Result}
 use Rattle.book.specs.declared.parts.Counts.{Counts}
 use Rattle.book.specs.Layout.{book_words}
 use Rattle.fit.specs.Fit.{fit}
 use Rattle.register.specs.Promises as promises
 use Rattle.paper.specs.declared.answer.Payload.{Payload}
 use Rattle.paper.specs.Answers.{paper, paper_read, paper_write, paper_list}
-use Rattle.paper.specs.declared.answer.Answer as plain
+use Rattle.paper.specs.declared.answer.Refusal.{Refusal}
 use Rattle.paper.specs.declared.answer.ReadAnswer.{ReadAnswer}
-use Rattle.paper.specs.declared.answer.WriteAnswer.{WriteAnswer}
+use Rattle.paper.specs.declared.answer.Written.{Written}
 use Rattle.paper.specs.declared.answer.ListAnswer.{ListAnswer}
 use Rattle.model.specs.Parts.{fresh}
 use Rattle.paper.specs.Calls.{Call, read, write, tick, take, refresh, move, list, Answer, done, answer_by}
@@ -34,17 +34,17 @@ pub record BridgedSetup (l : List ℕ) (n : Counts) (homes : List ℕ) (answer :
 
 -- the bridge: for every fit book and all inputs, what the promise of a call says is what the model does; for setup, every book of full length
 pub record Bridge : Type 0 where
-  pub of_setup : (l : List ℕ) → length l ≡ book_words → (n : Counts) (homes : List ℕ) (r : plain.Answer) (l' : List ℕ) → promises.Setup l n homes r l'
+  pub of_setup : (l : List ℕ) → length l ≡ book_words → (n : Counts) (homes : List ℕ) (r : Result Unit Refusal) (l' : List ℕ) → promises.Setup l n homes r l'
       → BridgedSetup l n homes (paper r) l'
   pub of_read : (l : List ℕ) → fit l ≡ true → (c k : ℕ) (r : ReadAnswer) (l' : List ℕ) → promises.Read l c k r l'
       → Bridged l (read c k) (paper_read r) l'
-  pub of_write : (l : List ℕ) → fit l ≡ true → (c k : ℕ) (payload : Payload) (r : WriteAnswer) (l' : List ℕ) → promises.Write l c k payload r l'
+  pub of_write : (l : List ℕ) → fit l ≡ true → (c k : ℕ) (payload : Payload) (r : Result Written Refusal) (l' : List ℕ) → promises.Write l c k payload r l'
       → Bridged l (write c k payload) (paper_write r) l'
-  pub of_tick : (l : List ℕ) → fit l ≡ true → (d s : ℕ) (r : plain.Answer) (l' : List ℕ) → promises.Tick l d s r l' → Bridged l (tick d s) (paper r) l'
-  pub of_take : (l : List ℕ) → fit l ≡ true → (d s from : ℕ) (r : plain.Answer) (l' : List ℕ) → promises.Take l d s from r l'
+  pub of_tick : (l : List ℕ) → fit l ≡ true → (d s : ℕ) (r : Result Unit Refusal) (l' : List ℕ) → promises.Tick l d s r l' → Bridged l (tick d s) (paper r) l'
+  pub of_take : (l : List ℕ) → fit l ≡ true → (d s from : ℕ) (r : Result Unit Refusal) (l' : List ℕ) → promises.Take l d s from r l'
       → Bridged l (take d s from) (paper r) l'
-  pub of_refresh : (l : List ℕ) → fit l ≡ true → (d s : ℕ) (r : plain.Answer) (l' : List ℕ) → promises.Refresh l d s r l'
+  pub of_refresh : (l : List ℕ) → fit l ≡ true → (d s : ℕ) (r : Result Unit Refusal) (l' : List ℕ) → promises.Refresh l d s r l'
       → Bridged l (refresh d s) (paper r) l'
-  pub of_move : (l : List ℕ) → fit l ≡ true → (c d : ℕ) (r : plain.Answer) (l' : List ℕ) → promises.Move l c d r l' → Bridged l (move c d) (paper r) l'
+  pub of_move : (l : List ℕ) → fit l ≡ true → (c d : ℕ) (r : Result Unit Refusal) (l' : List ℕ) → promises.Move l c d r l' → Bridged l (move c d) (paper r) l'
   pub of_list : (l : List ℕ) → fit l ≡ true → (c : ℕ) (ks : List ℕ) (r : ListAnswer) (l' : List ℕ) → promises.Listing l c ks r l'
       → Bridged l (list c ks) (paper_list r) l'

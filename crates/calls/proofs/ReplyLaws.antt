@@ -6,9 +6,10 @@ use native.Mathlib.Omega.{arith}
 use mathlib.Core.Path.{◌≡◌, refl, sym, ◌∙◌, ap, subst}
 use mathlib.Core.List.{List, [], ◌∷◌}
 use lib.ListN.{length, take, replicate}
+use Rattle.std.proofs.Common.{Result, Ok}
 use Rattle.paper.specs.Calls.{Told, Answer}
 use Rattle.paper.specs.Answers.{told_all, paper_listed, paper_list, entries_in, padded, Holds, tellings, depots_told, page_words, HoldsAll}
-use Rattle.paper.specs.declared.answer.Answer as plain
+use Rattle.paper.specs.declared.answer.Refusal.{Refusal}
 use Rattle.paper.specs.declared.answer.ListAnswer.{ListAnswer}
 use Rattle.request.specs.Replies.{paper_outcome, on_paper, Carries}
 use Rattle.request.specs.declared.ask.Request as request
@@ -82,13 +83,13 @@ bare_reply o {a = a} p e =
 module _ (x : ListAnswer) where
   -- where it is done
   pub list_reply :
-      x.outcome ≡ plain.Answer.Done → {r : Reply} →
+      x.outcome ≡ Ok tt → {r : Reply} →
       r ≡ record { outcome = Outcome.Listed; vector = 0 ∷ 0 ∷ 0 ∷ 0 ∷ []; depots = x.depots; bearings = x.bearings; words = x.words } →
       (on_paper r ≡ paper_list x) × (HoldsAll (paper_list x) x → Carries (on_paper r) r)
   unfolding on_paper paper_outcome paper_list paper_listed entries_in padded
   list_reply e p =
       let told = told_all x.depots x.bearings x.words in
-      let listed = ap (λ (o : plain.Answer). paper_listed o told) e in
+      let listed = ap (λ (o : Result Unit Refusal). paper_listed o told) e in
       subst (λ (y : Reply). (on_paper y ≡ paper_list x) × (HoldsAll (paper_list x) x → Carries (on_paper y) y)) (sym p) (
         sym listed,
         λ h. record {

@@ -3,7 +3,7 @@ ghost use Rattle.std.specs.Prelude.{◌≡◌, [], ◌∷◌, replicate};
 ghost use Rattle.paper.specs.Answers.{paper, paper_read, paper_write, paper_list, Holds, HoldsAll};
 ghost use Rattle.request.specs.Replies.{on_paper, Carries};
 
-use paper::answer::{Answer, Finding, ListAnswer, ReadAnswer, WriteAnswer};
+use paper::answer::{Finding, ListAnswer, ReadAnswer, Refusal, Written};
 use request::reply::{Outcome, Reply};
 
 // The words of a list's answer.
@@ -30,12 +30,12 @@ fn bare(outcome: Outcome) -> Reply
 }
 
 // The reply to a setup, a tick, a take, a refresh or a move.
-pub fn answered(answer: Answer) -> Reply
+pub fn answered(answer: Result<(), Refusal>) -> Reply
     ensures { (on_paper result ≡ paper answer) × Carries (on_paper result) result }
 {
     match answer {
-        Answer::Done => bare(Outcome::Done),
-        Answer::Refused(r) => bare(Outcome::Refused(r)),
+        Ok(()) => bare(Outcome::Done),
+        Err(r) => bare(Outcome::Refused(r)),
     }
 }
 
@@ -54,13 +54,15 @@ pub fn found(answer: ReadAnswer) -> Reply
 }
 
 // The reply to a write.
-pub fn wrote(answer: WriteAnswer) -> Reply
+pub fn wrote(answer: Result<Written, Refusal>) -> Reply
     ensures { (on_paper result ≡ paper_write answer) × Carries (on_paper result) result }
 {
     match answer {
-        WriteAnswer::Current(stamp) => bare(Outcome::Current(stamp)),
-        WriteAnswer::Superseded(stamp) => bare(Outcome::Superseded(stamp)),
-        WriteAnswer::Refused(r) => bare(Outcome::Refused(r)),
+        Ok(written) => match written {
+            Written::Current(stamp) => bare(Outcome::Current(stamp)),
+            Written::Superseded(stamp) => bare(Outcome::Superseded(stamp)),
+        },
+        Err(r) => bare(Outcome::Refused(r)),
     }
 }
 
@@ -71,13 +73,13 @@ pub fn listed(answer: ListAnswer) -> Reply
     let outcome = answer.outcome;
     let words = answer.words;
     match outcome {
-        Answer::Done => Reply {
+        Ok(()) => Reply {
             outcome: Outcome::Listed,
             vector: [0, 0, 0, 0],
             depots: answer.depots,
             bearings: answer.bearings,
             words: words,
         },
-        Answer::Refused(r) => bare(Outcome::Refused(r)),
+        Err(r) => bare(Outcome::Refused(r)),
     }
 }

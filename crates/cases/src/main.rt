@@ -11,7 +11,6 @@ use crate::lists::case_p;
 use book::layout::{BOOK_WORDS, clock_at, crew_at, stable_at};
 use book::numbers::{Crew, Depot, Numbered, Shelf};
 use book::parts::set_clock;
-use paper::answer::Answer;
 use paper::number::number_of;
 use rehome::move_crew;
 use reply::ANSWER_ROOM;
@@ -311,8 +310,8 @@ fn case_n(book: &mut [u32], out: &mut [u8]) -> bool
 // Whether a crew's move to a depot has this number.
 fn is_moved(book: &mut [u32], crew: u32, depot: u32, number: u32) -> bool {
     match move_crew(book, crew, depot) {
-        Answer::Done => number == 0,
-        Answer::Refused(r) => number_of(r) == number,
+        Ok(()) => number == 0,
+        Err(r) => number_of(r) == number,
     }
 }
 

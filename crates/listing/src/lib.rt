@@ -10,7 +10,6 @@ ghost use Rattle.telling.specs.Told.{words_of};
 ghost use Rattle.listing.specs.Told.{list_words};
 
 use page::list;
-use paper::answer::Answer;
 use paper::number::number_of;
 use room::{NO_ROOM, fill};
 
@@ -30,9 +29,11 @@ pub fn tell_list(book: &mut [u32], crew: u32, bearings: &[u32], out: &mut [u32])
     let answer = list(book, crew, bearings);
     let outcome = answer.outcome;
     let words = answer.words;
-    let Answer::Refused(r) = outcome else {
-        fill(out, &words);
-        return 0;
-    };
-    number_of(r)
+    match outcome {
+        Ok(()) => {
+            fill(out, &words);
+            0
+        }
+        Err(r) => number_of(r),
+    }
 }

@@ -2,7 +2,7 @@
 // Whether it may be made is for the caller to have checked.
 #![tactic(auto)]
 
-ghost use Rattle.std.specs.Prelude.{◌≡◌, ◌∷◌, ◌+◌, ◌<◌, ◌≤◌, length, set};
+ghost use Rattle.std.specs.Prelude.{◌≡◌, ◌∷◌, ◌+◌, ◌<◌, ◌≤◌, length, set, Ok};
 ghost use Rattle.order.specs.Order.{above};
 ghost use Rattle.order.specs.Record.{most_depots, record_words, bearing_of, rank_of};
 ghost use Rattle.book.specs.Layout.{book_words, bearing_room, most_crews, copy_kind, stored, crew_vector, crew_at};
@@ -20,7 +20,7 @@ use book::words::write_words;
 use card::{Card, diameter_bits, width_bits};
 use links::send::send;
 use order::record::{RECORD_WORDS, is_above};
-use paper::answer::WriteAnswer;
+use paper::answer::Written;
 use register::home::{crew_vector, cut_vector, settle_home};
 use register::version::Version;
 
@@ -104,13 +104,13 @@ fn stamp_crew(book: &mut [u32], n: usize, c: Crew, d: Depot, s: Shelf, stamp: u3
     book[crew_at(c) + d.index()] = stamp;
 }
 
-fn answered(current: bool, stamp: u32) -> WriteAnswer
-    ensures { paper_write result ≡ written stamp current }
+fn answered(current: bool, stamp: u32) -> Written
+    ensures { paper_write (Ok result) ≡ written stamp current }
 {
     if current {
-        return WriteAnswer::Current(stamp);
+        return Written::Current(stamp);
     }
-    WriteAnswer::Superseded(stamp)
+    Written::Superseded(stamp)
 }
 
 // The version is made, stored if greater, and sent.
@@ -124,9 +124,9 @@ pub fn write_version(
     stamp: u32,
     value: u32,
     card: Card,
-) -> WriteAnswer
+) -> Written
     requires { MayWrite book.old c.0 k.0 (payload_from value card) n d.0 s.0 stamp }
-    ensures { (paper_write result ≡ written (new_stamp book.old c.0 k.0) (is_current book.old c.0 k.0 (payload_from value card)))
+    ensures { (paper_write (Ok result) ≡ written (new_stamp book.old c.0 k.0) (is_current book.old c.0 k.0 (payload_from value card)))
         × (book.new ≡ write_book book.old c.0 k.0 (payload_from value card)) }
 {
     let message = made_copy(book, n, c, k, d, stamp, value, card);

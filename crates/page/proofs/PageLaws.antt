@@ -6,6 +6,7 @@ use mathlib.Core.Path.{◌≡◌, refl, sym, ◌∙◌, ap, ap₂, subst, subst�
 use mathlib.Core.List.{List, [], ◌∷◌, map}
 use mathlib.Core.Bool.{true}
 use lib.ListN.{length, length-map, replicate}
+use Rattle.std.proofs.Common.{Ok, Err}
 use Rattle.loops.proofs.BoolLaws.{and_right}
 use Rattle.loops.proofs.LoopLaws.{every_at}
 use Rattle.order.specs.Vector.{vector_in}
@@ -17,7 +18,6 @@ use Rattle.named.proofs.NamedLaws.{Based}
 use Rattle.shelf.specs.Asks.{Ready}
 use Rattle.links.specs.Send.{four_of}
 use Rattle.paper.specs.Calls.{Told, Answer, listed, answer_by}
-use Rattle.paper.specs.declared.answer.Answer as plain
 use Rattle.paper.specs.declared.answer.Refusal.{Refusal}
 use Rattle.paper.specs.declared.answer.ListAnswer.{ListAnswer}
 use Rattle.paper.specs.Answers.{number_of, told_all, paper_listed, paper_list, tellings, entries_told, depots_told, page_words, HoldsAll}
@@ -32,7 +32,7 @@ use Rattle.moment.proofs.MomentLaws.{record_back, record_entries}
 
 -- a list that is refused tells of no bearing
 pub list_refused :
-    {n : ℕ} (r : Refusal) {a : ListAnswer} (b : Answer) → a ≡ record { outcome = plain.Answer.Refused r; bearings = 0; depots = 0; words = replicate 64 0 } → n ≡ number_of r →
+    {n : ℕ} (r : Refusal) {a : ListAnswer} (b : Answer) → a ≡ record { outcome = Err r; bearings = 0; depots = 0; words = replicate 64 0 } → n ≡ number_of r →
     (paper_list a ≡ answer_by n b) × HoldsAll (paper_list a) a
 unfolding paper_list paper_listed tellings depots_told page_words
 list_refused {n} r b q e =
@@ -46,7 +46,7 @@ depots_told_law n f (k ∷ ks) h l = h k
 
 pub list_told :
     (n : ℕ) (r : ℕ → List ℕ) (ks : List ℕ) {w : List ℕ} → n ≤ 4 → 1 ≤ length ks → length ks ≤ 8 → w ≡ page_words 8 (map (λ k. told n (r k)) ks) →
-    let a : ListAnswer = record { outcome = plain.Answer.Done; bearings = length ks; depots = n; words = w } in
+    let a : ListAnswer = record { outcome = Ok tt; bearings = length ks; depots = n; words = w } in
     (paper_list a ≡ listed (map (λ k. told n (r k)) ks)) × HoldsAll (paper_list a) a
 unfolding paper_list paper_listed tellings
 list_told n r ks {w} h a b e =

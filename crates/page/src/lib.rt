@@ -2,8 +2,7 @@
 // read, and the crew's vector becomes the entrywise maximum with every answer.
 #![tactic(auto)]
 
-ghost use Rattle.std.specs.Prelude.{◌≡◌, true, ◌<◌, replicate};
-ghost use Rattle.paper.specs.declared.answer.Answer as answer;
+ghost use Rattle.std.specs.Prelude.{◌≡◌, true, ◌<◌, replicate, Err};
 ghost use Rattle.book.specs.Layout.{counts_of};
 ghost use Rattle.named.specs.Named.{is_list, all_below, base_fit};
 ghost use Rattle.register.specs.Promises.{Listing};
@@ -12,7 +11,7 @@ use book::numbers::{Crew, Numbered};
 use book::parts::{counts_of, wide};
 use moment::{gather, merge_all, settle_all, tell_all};
 use named_call::{base_fits, list_parts_fit};
-use paper::answer::{Answer, ListAnswer, Refusal};
+use paper::answer::{ListAnswer, Refusal};
 use register::home::{crew_vector, home_depot};
 
 // The most bearings that a list may name, and the words that all of them are answered with.
@@ -22,10 +21,10 @@ const PAGE_WORDS: usize = 64;
 
 // A refusal carries nothing but its number.
 fn refused(r: Refusal) -> ListAnswer
-    ensures { result ≡ record { outcome = answer.Answer.Refused r; bearings = 0; depots = 0; words = replicate 64 0 } }
+    ensures { result ≡ record { outcome = Err r; bearings = 0; depots = 0; words = replicate 64 0 } }
 {
     ListAnswer {
-        outcome: Answer::Refused(r),
+        outcome: Err(r),
         bearings: 0,
         depots: 0,
         words: [0; PAGE_WORDS],
@@ -63,7 +62,7 @@ fn list_at(book: &mut [u32], c: Crew, bearings: &[u32]) -> ListAnswer
     tell_all(book, n, d, bearings, &mut words);
     merge_all(book, n, c, d, bearings);
     ListAnswer {
-        outcome: Answer::Done,
+        outcome: Ok(()),
         bearings: bearings.len(),
         depots: n.depots,
         words: words,

@@ -5,15 +5,15 @@ use mathlib.Core.Path.{◌≡◌, refl, sym, ◌∙◌, ap}
 use mathlib.Core.List.{List, [], ◌∷◌}
 use lib.Dec.{eqb}
 use lib.ListN.{length}
+use Rattle.std.proofs.Common.{Result, Ok, Err}
 use Rattle.loops.specs.Loops.{pick}
 use Rattle.paper.specs.Calls.{Told, read_value, read_unwritten, Answer, refused, done, reads, current, superseded, listed}
 use Rattle.paper.specs.declared.answer.Refusal.{Refusal}
 use Rattle.paper.specs.declared.answer.Refusal.TheVariants.{BadBook, BadDepot, BadShelf, BadKey, BadCrew, SameDepot, EmptyLink, Wait}
 use Rattle.paper.specs.declared.answer.Refusal.TheVariants.{LinkFull, ClockAtEnd, BadCounts, NotHereYet, BadDate, BadCard, BadList}
-use Rattle.paper.specs.declared.answer.Answer as plain
 use Rattle.paper.specs.declared.answer.Finding.{Finding}
 use Rattle.paper.specs.declared.answer.ReadAnswer.{ReadAnswer}
-use Rattle.paper.specs.declared.answer.WriteAnswer.{WriteAnswer}
+use Rattle.paper.specs.declared.answer.Written.{Written}
 use Rattle.paper.specs.declared.answer.ListAnswer.{ListAnswer}
 use Rattle.paper.specs.Answers.{number_of, paper, paper_found, paper_read, paper_write, paper_listed, paper_list, entries_in, padded, Holds, tellings, depots_told, page_words, HoldsAll}
 
@@ -51,20 +51,20 @@ number_settles r r' e = sym (refusal_back r) ∙ ap refusal_at e ∙ refusal_bac
 
 -- ---- the answer of each call
 
-plain_at : Answer → plain.Answer
-plain_at (refused n) = plain.Answer.Refused (refusal_at n)
-plain_at done = plain.Answer.Done
-plain_at (reads t) = plain.Answer.Done
-plain_at (current stamp) = plain.Answer.Done
-plain_at (superseded stamp) = plain.Answer.Done
-plain_at (listed told) = plain.Answer.Done
+plain_at : Answer → Result Unit Refusal
+plain_at (refused n) = Err (refusal_at n)
+plain_at done = Ok tt
+plain_at (reads t) = Ok tt
+plain_at (current stamp) = Ok tt
+plain_at (superseded stamp) = Ok tt
+plain_at (listed told) = Ok tt
 
-plain_back : (a : plain.Answer) → plain_at (paper a) ≡ a
+plain_back : (a : Result Unit Refusal) → plain_at (paper a) ≡ a
 unfolding paper plain_at
-plain_back plain.Answer.Done = refl
-plain_back (plain.Answer.Refused r) = ap plain.Answer.Refused (refusal_back r)
+plain_back (Ok u) = refl
+plain_back (Err r) = ap Err (refusal_back r)
 
-pub plain_settles : (a b : plain.Answer) → paper a ≡ paper b → a ≡ b
+pub plain_settles : (a b : Result Unit Refusal) → paper a ≡ paper b → a ≡ b
 plain_settles a b e = sym (plain_back a) ∙ ap plain_at e ∙ plain_back b
 
 finding_at : Answer → Finding
@@ -91,27 +91,27 @@ read_settles a b e h k =
     let n = h.count ∙ ap (λ (x : Answer). length (entries_in x)) e ∙ sym k.count in
     λ i. record { finding = f i; vector = v i; depots = n i }
 
-written_at : Answer → WriteAnswer
-written_at (refused n) = WriteAnswer.Refused (refusal_at n)
-written_at done = WriteAnswer.Current 0
-written_at (reads t) = WriteAnswer.Current 0
-written_at (current stamp) = WriteAnswer.Current stamp
-written_at (superseded stamp) = WriteAnswer.Superseded stamp
-written_at (listed told) = WriteAnswer.Current 0
+written_at : Answer → Result Written Refusal
+written_at (refused n) = Err (refusal_at n)
+written_at done = Ok (Written.Current 0)
+written_at (reads t) = Ok (Written.Current 0)
+written_at (current stamp) = Ok (Written.Current stamp)
+written_at (superseded stamp) = Ok (Written.Superseded stamp)
+written_at (listed told) = Ok (Written.Current 0)
 
-written_back : (a : WriteAnswer) → written_at (paper_write a) ≡ a
+written_back : (a : Result Written Refusal) → written_at (paper_write a) ≡ a
 unfolding paper_write written_at
-written_back (WriteAnswer.Current stamp) = refl
-written_back (WriteAnswer.Superseded stamp) = refl
-written_back (WriteAnswer.Refused r) = ap WriteAnswer.Refused (refusal_back r)
+written_back (Ok (Written.Current stamp)) = refl
+written_back (Ok (Written.Superseded stamp)) = refl
+written_back (Err r) = ap Err (refusal_back r)
 
-pub written_settles : (a b : WriteAnswer) → paper_write a ≡ paper_write b → a ≡ b
+pub written_settles : (a b : Result Written Refusal) → paper_write a ≡ paper_write b → a ≡ b
 written_settles a b e = sym (written_back a) ∙ ap written_at e ∙ written_back b
 
-listed_back : (a : plain.Answer) (ts : List Told) → plain_at (paper_listed a ts) ≡ a
+listed_back : (a : Result Unit Refusal) (ts : List Told) → plain_at (paper_listed a ts) ≡ a
 unfolding paper_listed plain_at
-listed_back plain.Answer.Done ts = refl
-listed_back (plain.Answer.Refused r) ts = ap plain.Answer.Refused (refusal_back r)
+listed_back (Ok u) ts = refl
+listed_back (Err r) ts = ap Err (refusal_back r)
 
 pub list_settles : (a b : ListAnswer) → paper_list a ≡ paper_list b → HoldsAll (paper_list a) a → HoldsAll (paper_list b) b → a ≡ b
 unfolding paper_list

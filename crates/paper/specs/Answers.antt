@@ -1,14 +1,13 @@
 -- Each answer as the paper has it: the number of a refusal, and of what is done its values.
 -- Assumes nothing.
-use Rattle.std.specs.Prelude.{ℕ, zero, suc, ◌≡◌, List, [], ◌∷◌, ◌++◌, eqb, length, get_or, take, drop, replicate}
+use Rattle.std.specs.Prelude.{ℕ, zero, suc, ◌≡◌, List, [], ◌∷◌, ◌++◌, eqb, length, get_or, take, drop, replicate, Result, Ok, Err}
 use Rattle.loops.specs.Loops.{pick}
 use Rattle.paper.specs.declared.answer.Refusal.{Refusal}
 use Rattle.paper.specs.declared.answer.Refusal.TheVariants.{BadBook, BadDepot, BadShelf, BadKey, BadCrew, SameDepot, EmptyLink, Wait}
 use Rattle.paper.specs.declared.answer.Refusal.TheVariants.{LinkFull, ClockAtEnd, BadCounts, NotHereYet, BadDate, BadCard, BadList}
-use Rattle.paper.specs.declared.answer.Answer as answer
 use Rattle.paper.specs.declared.answer.Finding.{Finding}
 use Rattle.paper.specs.declared.answer.ReadAnswer.{ReadAnswer}
-use Rattle.paper.specs.declared.answer.WriteAnswer.{WriteAnswer}
+use Rattle.paper.specs.declared.answer.Written.{Written}
 use Rattle.paper.specs.declared.answer.ListAnswer.{ListAnswer}
 use Rattle.paper.specs.Calls.{Told, read_value, read_unwritten, Answer, refused, done, reads, current, superseded, listed}
 
@@ -31,9 +30,9 @@ number_of BadCard = 14
 number_of BadList = 15
 
 -- the answer of a setup, a tick, a take, a refresh or a move
-unfoldable pub paper : answer.Answer → Answer
-paper answer.Answer.Done = done
-paper (answer.Answer.Refused r) = refused (number_of r)
+unfoldable pub paper : Result Unit Refusal → Answer
+paper (Ok u) = done
+paper (Err r) = refused (number_of r)
 
 -- what a read found, with the entries u of its vector
 unfoldable pub paper_found : Finding → List ℕ → Answer
@@ -46,10 +45,10 @@ unfoldable pub paper_read : ReadAnswer → Answer
 paper_read a = paper_found a.finding (take a.depots a.vector)
 
 -- the answer of a write
-unfoldable pub paper_write : WriteAnswer → Answer
-paper_write (WriteAnswer.Current stamp) = current stamp
-paper_write (WriteAnswer.Superseded stamp) = superseded stamp
-paper_write (WriteAnswer.Refused r) = refused (number_of r)
+unfoldable pub paper_write : Result Written Refusal → Answer
+paper_write (Ok (Written.Current stamp)) = current stamp
+paper_write (Ok (Written.Superseded stamp)) = superseded stamp
+paper_write (Err r) = refused (number_of r)
 
 -- what eight words tell of a bearing, of whose last four the first n are entries: whether it is written, the value, the bits of diameter and width
 unfoldable pub told_in : ℕ → List ℕ → Told
@@ -64,9 +63,9 @@ told_all n zero w = []
 told_all n (suc i) w = told_in n (take 8 w) ∷ told_all n i (drop 8 w)
 
 -- the answer of a list, with what it tells
-unfoldable pub paper_listed : answer.Answer → List Told → Answer
-paper_listed answer.Answer.Done ts = listed ts
-paper_listed (answer.Answer.Refused r) ts = refused (number_of r)
+unfoldable pub paper_listed : Result Unit Refusal → List Told → Answer
+paper_listed (Ok u) ts = listed ts
+paper_listed (Err r) ts = refused (number_of r)
 
 unfoldable pub paper_list : ListAnswer → Answer
 paper_list a = paper_listed a.outcome (told_all a.depots a.bearings a.words)

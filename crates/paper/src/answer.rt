@@ -20,13 +20,6 @@ pub enum Refusal {
     BadList,
 }
 
-// The answer of a setup, a tick, a take, a refresh or a move.
-#[derive(Clone, Copy)]
-pub enum Answer {
-    Done,
-    Refused(Refusal),
-}
-
 // The last day that a value may name, 31 December 2399: the calendar's last day.
 pub const LAST_DAY: u32 = 146_096;
 
@@ -54,19 +47,18 @@ pub struct ReadAnswer {
     pub depots: usize,
 }
 
-// The answer of a write: its stamp, and whether the version is current or superseded.
+// What a write tells: its stamp, and whether the version is current or superseded.
 #[derive(Clone, Copy)]
-pub enum WriteAnswer {
+pub enum Written {
     Current(u32),
     Superseded(u32),
-    Refused(Refusal),
 }
 
 // The answer of a list: eight words for each bearing, in list order, in room for eight bearings. They are 1 and the value with its card's two words, or 1's place and these 0 where
 // the bearing is unwritten; then room for the four entries of its vector, of which the first `depots` count. 0 stands elsewhere; if refused, everywhere.
 #[derive(Clone, Copy)]
 pub struct ListAnswer {
-    pub outcome: Answer,
+    pub outcome: Result<(), Refusal>,
     pub bearings: usize,
     pub depots: usize,
     pub words: [u32; 64],

@@ -3,7 +3,7 @@ ghost use Rattle.std.specs.Prelude.{◌≡◌};
 ghost use Rattle.paper.specs.Calls.{number_in};
 ghost use Rattle.paper.specs.Answers.{number_of, paper};
 
-use crate::answer::{Answer, Refusal};
+use crate::answer::Refusal;
 
 // The number of a refusal.
 #[tactic(auto, unfolding(crate::specs::Answers::number_of))]
@@ -29,12 +29,12 @@ pub fn number_of(r: Refusal) -> u32
     }
 }
 
-// The number of an answer: 0 is done.
-pub fn number_in(answer: Answer) -> u32
+// The number of what a setup, a tick, a take, a refresh or a move answers: 0 is done.
+pub fn number_in(answer: Result<(), Refusal>) -> u32
     ensures { result ≡ number_in (paper answer) }
 {
     match answer {
-        Answer::Done => 0,
-        Answer::Refused(r) => number_of(r),
+        Ok(()) => 0,
+        Err(r) => number_of(r),
     }
 }

@@ -10,7 +10,7 @@ ghost use Rattle.recorder.specs.Promises.{record_of, Appended, Recording};
 use crate::answer::Recorded;
 use calls::perform::perform;
 use calls::reply::answered;
-use paper::answer::{Answer, Refusal};
+use paper::answer::Refusal;
 use record_writer::{size_of, write_record};
 use request::ask::Request;
 use request::reply::number_in;
@@ -51,7 +51,7 @@ pub fn recorded(book: &mut [u32], request: Request, beside: &[u32], out: &mut [u
 {
     let size = size_of(request, beside);
     if out.len() < size {
-        let none = answered(Answer::Refused(Refusal::BadBook));
+        let none = answered(Err(Refusal::BadBook));
         return Recorded {
             number: NO_ROOM,
             reply: none,

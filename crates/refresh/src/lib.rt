@@ -10,29 +10,29 @@ use book::numbers::{Depot, Shelf};
 use book::parts::counts_of;
 use lowest::lowest_seen;
 use named_call::refresh_parts_fit;
-use paper::answer::{Answer, Refusal};
+use paper::answer::Refusal;
 use register::check::check_place;
 use shelf::show::settle;
 
-fn refresh_at(book: &mut [u32], d: Depot, s: Shelf) -> Answer
+fn refresh_at(book: &mut [u32], d: Depot, s: Shelf) -> Result<(), Refusal>
     requires { (base_fit book.old ≡ true) × (d.0 < (counts_of book.old).depots) × (s.0 < (counts_of book.old).shelves) }
     ensures { Refresh book.old d.0 s.0 result book.new }
 {
     let n = counts_of(book);
     if !refresh_parts_fit(book, n, d, s) {
-        return Answer::Refused(Refusal::BadBook);
+        return Err(Refusal::BadBook);
     }
     let offered = lowest_seen(book, n.depots, n.shelves, d);
     settle(book, n.depots, d, s, &offered);
-    Answer::Done
+    Ok(())
 }
 
 // Refuses, in this order: BAD BOOK, BAD DEPOT, BAD SHELF.
-pub fn refresh(book: &mut [u32], depot: u32, shelf: u32) -> Answer
+pub fn refresh(book: &mut [u32], depot: u32, shelf: u32) -> Result<(), Refusal>
     ensures { Refresh book.old depot shelf result book.new }
 {
     match check_place(book, depot, shelf) {
-        Err(r) => Answer::Refused(r),
+        Err(r) => Err(r),
         Ok((d, s)) => refresh_at(book, d, s),
     }
 }

@@ -9,6 +9,7 @@ use mathlib.Core.Bool.{true, false, not, ◌||◌}
 use lib.Dec.{eqb, ltb}
 use lib.ListN.{length, get_or, replicate, length-replicate}
 use lib.Seq.{ext_get_or}
+use Rattle.std.proofs.Common.{Ok, Err}
 use borrow.Author.Tests.{eq-eqb, ne_eqb}
 use Rattle.loops.specs.Loops.{every}
 use Rattle.loops.proofs.BoolLaws.{not_failed, or_left, or_right, or_next}
@@ -20,7 +21,6 @@ use Rattle.fit.specs.Fit.{counts_fit}
 use Rattle.register.specs.Table.{setup_number}
 use Rattle.register.specs.Calls.{set_up}
 use Rattle.paper.specs.declared.answer.Refusal.{Refusal}
-use Rattle.paper.specs.declared.answer.Answer.{Answer}
 use Rattle.paper.specs.Answers.{number_of, paper}
 use Rattle.register.specs.Promises.{Setup}
 use Rattle.register.proofs.TableLaws.{first_stop, first_next, first_none}
@@ -76,10 +76,10 @@ fresh_words l n homes e p q r =
 
 module _ (l : List ℕ) (n : Counts) (homes : List ℕ) where
   -- refused: the answer, and the book as it was
-  pub setup_refused : (r : Refusal) {l' : List ℕ} → setup_number l n homes ≡ number_of r → l' ≡ l → Setup l n homes (Answer.Refused r) l'
+  pub setup_refused : (r : Refusal) {l' : List ℕ} → setup_number l n homes ≡ number_of r → l' ≡ l → Setup l n homes (Err r) l'
   unfolding paper
   setup_refused r e same = record { answer = by_refusal r _ e; book = same ∙ after_refused r _ _ e }
 
-  pub setup_done : {l' : List ℕ} → setup_number l n homes ≡ 0 → l' ≡ set_up n homes → Setup l n homes Answer.Done l'
+  pub setup_done : {l' : List ℕ} → setup_number l n homes ≡ 0 → l' ≡ set_up n homes → Setup l n homes (Ok tt) l'
   unfolding paper
   setup_done e same = record { answer = by_done e; book = same ∙ after_done _ _ e }

@@ -15,7 +15,7 @@ use book::parts::{Counts, counts_of, home_of, wide};
 use lowest::lowest_seen;
 use named_call::{base_fits, move_parts_fit};
 use order::vector::is_covered;
-use paper::answer::{Answer, Refusal};
+use paper::answer::Refusal;
 use register::home::crew_vector;
 use shelf::show::word;
 
@@ -48,34 +48,34 @@ fn set_home(book: &mut [u32], c: Crew, d: Depot)
     book[home_at(c)] = word(d.index());
 }
 
-fn move_at(book: &mut [u32], c: Crew, d: Depot) -> Answer
+fn move_at(book: &mut [u32], c: Crew, d: Depot) -> Result<(), Refusal>
     requires { (base_fit book.old ≡ true) × (c.0 < (counts_of book.old).crews) × (d.0 < (counts_of book.old).depots) }
     ensures { Move book.old c.0 d.0 result book.new }
 {
     let n = counts_of(book);
     if !move_parts_fit(book, n, c, d) {
-        return Answer::Refused(Refusal::BadBook);
+        return Err(Refusal::BadBook);
     }
     if !is_open(book, n, c, d) {
-        return Answer::Refused(Refusal::NotHereYet);
+        return Err(Refusal::NotHereYet);
     }
     set_home(book, c, d);
-    Answer::Done
+    Ok(())
 }
 
 // Refuses, in this order: BAD BOOK, BAD CREW, BAD DEPOT, NOT HERE YET. One word moves: the crew's home.
-pub fn move_crew(book: &mut [u32], crew: u32, depot: u32) -> Answer
+pub fn move_crew(book: &mut [u32], crew: u32, depot: u32) -> Result<(), Refusal>
     ensures { Move book.old crew depot result book.new }
 {
     if !base_fits(book) {
-        return Answer::Refused(Refusal::BadBook);
+        return Err(Refusal::BadBook);
     }
     let n = counts_of(book);
     let Some(c) = Crew::checked(crew, n.crews) else {
-        return Answer::Refused(Refusal::BadCrew);
+        return Err(Refusal::BadCrew);
     };
     let Some(d) = Depot::checked(depot, n.depots) else {
-        return Answer::Refused(Refusal::BadDepot);
+        return Err(Refusal::BadDepot);
     };
     move_at(book, c, d)
 }

@@ -11,7 +11,7 @@ use book::layout::{BOOK_WORDS, HOMES};
 use book::parts::{Counts, wide};
 use book::words::{clear_words, write_words};
 use fit::counts::counts_fit;
-use paper::answer::{Answer, Refusal};
+use paper::answer::Refusal;
 
 // The four counts, as numbers to count with.
 fn counts_from(depots: u32, shelves: u32, bearings: u32, crews: u32) -> Counts
@@ -59,22 +59,22 @@ pub fn setup(
     bearings: u32,
     crews: u32,
     homes: &[u32],
-) -> Answer
+) -> Result<(), Refusal>
     ensures { Setup book.old (record { depots = depots; shelves = shelves; bearings = bearings; crews = crews }) homes.now result book.new }
 {
     if book.len() != BOOK_WORDS {
-        return Answer::Refused(Refusal::BadBook);
+        return Err(Refusal::BadBook);
     }
     let n = counts_from(depots, shelves, bearings, crews);
     if !counts_fit(n) {
-        return Answer::Refused(Refusal::BadCounts);
+        return Err(Refusal::BadCounts);
     }
     if homes.len() != n.crews {
-        return Answer::Refused(Refusal::BadCounts);
+        return Err(Refusal::BadCounts);
     }
     if !are_depots(homes, n.crews, n.depots) {
-        return Answer::Refused(Refusal::BadDepot);
+        return Err(Refusal::BadDepot);
     }
     write_fresh(book, depots, shelves, bearings, crews, homes);
-    Answer::Done
+    Ok(())
 }

@@ -10,36 +10,36 @@ use book::layout::Link;
 use book::numbers::{Depot, Numbered, Shelf};
 use book::parts::{counts_of, held_of, taken_of};
 use named_link::take_parts_fit;
-use paper::answer::{Answer, Refusal};
+use paper::answer::Refusal;
 use register::check::check_link;
 use taking::take_one;
 
-fn take_at(book: &mut [u32], d: Depot, s: Shelf, from: Depot) -> Answer
+fn take_at(book: &mut [u32], d: Depot, s: Shelf, from: Depot) -> Result<(), Refusal>
     requires { (base_fit book.old ≡ true) × (d.0 < (counts_of book.old).depots) × (from.0 < (counts_of book.old).depots) × (s.0 < (counts_of book.old).shelves) }
     ensures { Take book.old d.0 s.0 from.0 result book.new }
 {
     if d.index() == from.index() {
-        return Answer::Refused(Refusal::SameDepot);
+        return Err(Refusal::SameDepot);
     }
     if !take_parts_fit(book, counts_of(book), d, s, from) {
-        return Answer::Refused(Refusal::BadBook);
+        return Err(Refusal::BadBook);
     }
     let q = Link::between(s, from, d);
     let count = held_of(book, q);
     let done = taken_of(book, q);
     if count <= done {
-        return Answer::Refused(Refusal::EmptyLink);
+        return Err(Refusal::EmptyLink);
     }
     take_one(book, d, s, from);
-    Answer::Done
+    Ok(())
 }
 
 // Refuses, in this order: BAD BOOK, BAD DEPOT (either), BAD SHELF, SAME DEPOT, EMPTY LINK.
-pub fn take(book: &mut [u32], depot: u32, shelf: u32, from: u32) -> Answer
+pub fn take(book: &mut [u32], depot: u32, shelf: u32, from: u32) -> Result<(), Refusal>
     ensures { Take book.old depot shelf from result book.new }
 {
     match check_link(book, depot, shelf, from) {
-        Err(r) => Answer::Refused(r),
+        Err(r) => Err(r),
         Ok((d, s, o)) => take_at(book, d, s, o),
     }
 }

@@ -1,13 +1,15 @@
 -- The number of an answer, known by its case, and what it leaves in `out`: the words of a read's vector are the entries that it tells.
 -- Assumes nothing.
 use Prim.Native.Nat.{ℕ}
-use mathlib.Core.Path.{◌≡◌, sym, ◌∙◌, ap}
+use mathlib.Core.Path.{◌≡◌, refl, sym, ◌∙◌, ap}
 use mathlib.Core.List.{List, ◌∷◌}
 use lib.ListN.{take}
+use Rattle.std.specs.Prelude.{Ok}
 use Rattle.paper.specs.Calls.{Answer, number_in}
-use Rattle.paper.specs.Answers.{paper_found, paper_read, entries_in, padded, Holds}
+use Rattle.paper.specs.Answers.{paper_found, paper_read, paper_write, entries_in, padded, Holds}
 use Rattle.paper.specs.declared.answer.Finding.{Finding}
 use Rattle.paper.specs.declared.answer.ReadAnswer.{ReadAnswer}
+use Rattle.paper.specs.declared.answer.Written.{Written}
 use Rattle.room.specs.Room.{filled}
 use Rattle.telling.specs.Told.{words_of}
 
@@ -16,6 +18,12 @@ pub told_as :
     {a b : Answer} {n : ℕ} {w : List ℕ} (out : List ℕ) {out' : List ℕ} → a ≡ b → n ≡ number_in a → w ≡ words_of a → out' ≡ filled w out →
     (n ≡ number_in b) × (out' ≡ filled (words_of b) out)
 told_as out e p q h = (p ∙ ap number_in e, h ∙ ap (λ (w : List ℕ). filled w out) (q ∙ ap words_of e))
+
+-- a write that is done has the number 0
+pub written_number : (a : Written) → 0 ≡ number_in (paper_write (Ok a))
+unfolding number_in paper_write
+written_number (Written.Current stamp) = refl
+written_number (Written.Superseded stamp) = refl
 
 module _ (r : ReadAnswer) {f : Finding} (e : r.finding ≡ f) where
   pub found_as : paper_found f (take r.depots r.vector) ≡ paper_read r

@@ -2,7 +2,7 @@
 // all, before the book is looked at.
 #![tactic(auto)]
 
-ghost use Rattle.std.specs.Prelude.{◌≡◌, ◌/◌, ◌%◌};
+ghost use Rattle.std.specs.Prelude.{◌≡◌, ◌/◌, ◌%◌, Ok};
 ghost use Rattle.paper.specs.Calls.{read, write, number_in};
 ghost use Rattle.paper.specs.Answers.{paper_read, paper_write, Holds};
 ghost use Rattle.upkeep.specs.Requests.{call, number_at, reply_to, book_after};
@@ -11,7 +11,7 @@ ghost use Rattle.room.specs.Room.{no_room, in_room, filled};
 ghost use Rattle.telling.specs.Told.{read_words, write_words, grams_words, words_of, grams_out};
 
 use card::grams;
-use paper::answer::{Finding, Payload, ReadAnswer, WriteAnswer};
+use paper::answer::{Finding, Payload, ReadAnswer, Refusal, Written};
 use paper::number::number_of;
 use read::read;
 use room::{NO_ROOM, fill};
@@ -25,6 +25,16 @@ const WRITE_WORDS: usize = 2;
 const GRAMS_WORDS: usize = 2;
 
 const BAD_CARD: u32 = 14;
+
+// The words of what a write tells.
+pub fn written_words(written: Written) -> [u32; WRITE_WORDS]
+    ensures { result ≡ words_of (paper_write (Ok written)) }
+{
+    match written {
+        Written::Current(stamp) => [stamp, 1],
+        Written::Superseded(stamp) => [stamp, 0],
+    }
+}
 
 // What the answer of a read tells stands in `out`, and its number comes back.
 fn tell_found(out: &mut [u32], answer: ReadAnswer) -> u32
@@ -51,20 +61,16 @@ fn tell_found(out: &mut [u32], answer: ReadAnswer) -> u32
 }
 
 // The same of a write.
-fn tell_written(out: &mut [u32], answer: WriteAnswer) -> u32
+fn tell_written(out: &mut [u32], answer: Result<Written, Refusal>) -> u32
     ensures value { result ≡ number_in (paper_write answer) }
     ensures out_after { out.new ≡ filled (words_of (paper_write answer)) out.old }
 {
     match answer {
-        WriteAnswer::Current(stamp) => {
-            fill(out, &[stamp, 1]);
+        Ok(written) => {
+            fill(out, &written_words(written));
             0
         }
-        WriteAnswer::Superseded(stamp) => {
-            fill(out, &[stamp, 0]);
-            0
-        }
-        WriteAnswer::Refused(r) => number_of(r),
+        Err(r) => number_of(r),
     }
 }
 

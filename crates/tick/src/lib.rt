@@ -11,37 +11,37 @@ use book::numbers::{Depot, Shelf};
 use book::parts::{clock_of, counts_of};
 use links::send::{is_roomy, send};
 use named_link::tick_parts_fit;
-use paper::answer::{Answer, Refusal};
+use paper::answer::Refusal;
 use register::check::check_place;
 
-fn tick_at(book: &mut [u32], d: Depot, s: Shelf) -> Answer
+fn tick_at(book: &mut [u32], d: Depot, s: Shelf) -> Result<(), Refusal>
     requires { (base_fit book.old ≡ true) × (d.0 < (counts_of book.old).depots) × (s.0 < (counts_of book.old).shelves) }
     ensures { Tick book.old d.0 s.0 result book.new }
 {
     let n = counts_of(book);
     if !tick_parts_fit(book, n, d, s) {
-        return Answer::Refused(Refusal::BadBook);
+        return Err(Refusal::BadBook);
     }
     let clock = clock_of(book, d, s);
     if END <= clock {
-        return Answer::Refused(Refusal::ClockAtEnd);
+        return Err(Refusal::ClockAtEnd);
     }
     let depots = n.depots;
     if !is_roomy(book, depots, d, s) {
-        return Answer::Refused(Refusal::LinkFull);
+        return Err(Refusal::LinkFull);
     }
     let stamp = clock + 1;
     let beat = [BEAT, stamp, 0, 0, 0, 0, 0, 0, 0, 0];
     send(book, depots, d, s, stamp, &beat);
-    Answer::Done
+    Ok(())
 }
 
 // Refuses, in this order: BAD BOOK, BAD DEPOT, BAD SHELF, CLOCK AT END, LINK FULL. Room is judged on all links out before any message is sent.
-pub fn tick(book: &mut [u32], depot: u32, shelf: u32) -> Answer
+pub fn tick(book: &mut [u32], depot: u32, shelf: u32) -> Result<(), Refusal>
     ensures { Tick book.old depot shelf result book.new }
 {
     match check_place(book, depot, shelf) {
-        Err(r) => Answer::Refused(r),
+        Err(r) => Err(r),
         Ok((d, s)) => tick_at(book, d, s),
     }
 }

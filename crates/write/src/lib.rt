@@ -13,11 +13,11 @@ use card::card_of;
 use links::send::is_roomy;
 use making::write_version;
 use named_call::write_parts_fit;
-use paper::answer::{LAST_DAY, Payload, Refusal, WriteAnswer};
+use paper::answer::{LAST_DAY, Payload, Refusal, Written};
 use register::check::check_asked;
 use register::home::{home_depot, shelf_for};
 
-fn write_at(book: &mut [u32], c: Crew, k: Bearing, payload: Payload) -> WriteAnswer
+fn write_at(book: &mut [u32], c: Crew, k: Bearing, payload: Payload) -> Result<Written, Refusal>
     requires { (base_fit book.old ≡ true) × (c.0 < (counts_of book.old).crews) × (k.0 < (counts_of book.old).bearings) }
     ensures { Write book.old c.0 k.0 payload result book.new }
 {
@@ -26,33 +26,38 @@ fn write_at(book: &mut [u32], c: Crew, k: Bearing, payload: Payload) -> WriteAns
     let d = home_depot(book, n, c);
     let s = shelf_for(k, n);
     if !write_parts_fit(book, n, c, k, d, s) {
-        return WriteAnswer::Refused(Refusal::BadBook);
+        return Err(Refusal::BadBook);
     }
     if LAST_DAY < payload.value {
-        return WriteAnswer::Refused(Refusal::BadDate);
+        return Err(Refusal::BadDate);
     }
     let Some(card) = card_of(payload.diameter, payload.width) else {
-        return WriteAnswer::Refused(Refusal::BadCard);
+        return Err(Refusal::BadCard);
     };
     let clock = clock_of(book, d, s);
     if clock < book[crew_at(c) + d.index()] {
-        return WriteAnswer::Refused(Refusal::Wait);
+        return Err(Refusal::Wait);
     }
     if END <= clock {
-        return WriteAnswer::Refused(Refusal::ClockAtEnd);
+        return Err(Refusal::ClockAtEnd);
     }
     if !is_roomy(book, depots, d, s) {
-        return WriteAnswer::Refused(Refusal::LinkFull);
+        return Err(Refusal::LinkFull);
     }
-    write_version(book, depots, c, k, d, s, clock + 1, payload.value, card)
+    Ok(write_version(book, depots, c, k, d, s, clock + 1, payload.value, card))
 }
 
 // Refuses, in this order: BAD BOOK, BAD CREW, BAD KEY, BAD DATE, BAD CARD, WAIT, CLOCK AT END, LINK FULL. Room is judged before raising.
-pub fn write(book: &mut [u32], crew: u32, bearing: u32, payload: Payload) -> WriteAnswer
+pub fn write(
+    book: &mut [u32],
+    crew: u32,
+    bearing: u32,
+    payload: Payload,
+) -> Result<Written, Refusal>
     ensures { Write book.old crew bearing payload result book.new }
 {
     match check_asked(book, crew, bearing) {
-        Err(r) => WriteAnswer::Refused(r),
+        Err(r) => Err(r),
         Ok((c, k)) => write_at(book, c, k, payload),
     }
 }

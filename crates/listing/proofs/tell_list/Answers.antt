@@ -2,7 +2,7 @@
 -- Assumes nothing.
 use mathlib.Core.Path.{◌∙◌}
 use Rattle.paper.specs.Calls.{number_in}
-use Rattle.paper.specs.declared.answer.Answer as plain
+use Rattle.std.proofs.Common.{Ok}
 use Rattle.paper.specs.Answers.{paper_listed}
 use Rattle.room.proofs.RoomLaws.{with_room, no_room_law}
 use Rattle.listing.proofs.ListLaws.{list_book_law, list_number_law, done_words, refused_words}
@@ -13,24 +13,24 @@ returns-then-out-lt-LIST_WORDS c =
     let short = c.if-out-lt-LIST_WORDS.true in
     record { value = no_room_law _ _ _ _ short; book_after = no_room_law _ _ _ _ short; out_after = no_room_law _ _ _ _ short }
 
-pub returns-in_default : goal.returns-in_default
+pub returns-in-Ok : goal.returns-in-Ok
 unfolding number_in paper_listed
-returns-in_default c =
+returns-in-Ok c =
     let wide = c.if-out-lt-LIST_WORDS.false in
     let p = c.list-answer.ensures in
-    let e = c.in_default.is in
+    let e = c.in-Ok.is in
     record {
-      value = list_number_law p plain.Answer.Done e ∙ with_room _ _ _ _ wide;
+      value = list_number_law p (Ok tt) e ∙ with_room _ _ _ _ wide;
       book_after = list_book_law p ∙ with_room _ _ _ _ wide;
       out_after = c.fill.ensures ∙ done_words p e _ ∙ with_room _ _ _ _ wide;
     }
 
-pub returns : goal.returns
+pub returns-in-Err : goal.returns-in-Err
 unfolding number_in paper_listed
-returns c =
+returns-in-Err c =
     let wide = c.if-out-lt-LIST_WORDS.false in
     let p = c.list-answer.ensures in
-    let e = c.in-Refused.is in
+    let e = c.in-Err.is in
     record {
       value = c.number_of.ensures ∙ list_number_law p _ e ∙ with_room _ _ _ _ wide;
       book_after = list_book_law p ∙ with_room _ _ _ _ wide;

@@ -19,6 +19,7 @@ use Rattle.links.specs.Send.{roomy}
 use Rattle.paper.specs.declared.answer.Refusal.TheVariants.{BadBook, BadDate, BadCard, Wait, ClockAtEnd, LinkFull}
 use Rattle.paper.specs.declared.answer.Payload.{Payload}
 use Rattle.paper.specs.Calls.{last_day}
+use Rattle.std.proofs.Common.{Ok}
 use Rattle.paper.specs.Answers.{number_of, paper_write}
 use Rattle.register.specs.Table.{shelf_of, write_number}
 use Rattle.register.specs.Calls.{payload_from}
@@ -316,5 +317,5 @@ returns c =
     let call = c.write_version in
     let e = (may c.before.before.before.before.before).passed in
     let args = c.args in
-    subst (λ (p : Payload). Write args.book.now args.c.0 args.k.0 p call.result call.new.book) (same_payload (known c.before.before.before.before.before))
+    subst (λ (p : Payload). Write args.book.now args.c.0 args.k.0 p (Ok call.result) call.new.book) (same_payload (known c.before.before.before.before.before))
     (record { answer = call.ensures.0 ∙ by_done e; book = call.ensures.1 ∙ after_done _ _ e })

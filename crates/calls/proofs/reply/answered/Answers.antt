@@ -6,10 +6,10 @@ use Rattle.request.specs.Replies.{paper_outcome}
 use Rattle.calls.proofs.ReplyLaws.{bare_reply}
 use Rattle.calls.proofs.reply.answered.Goals as goal
 
-pub returns-in-Done : goal.returns-in-Done
+pub returns-in-Ok : goal.returns-in-Ok
 unfolding paper paper_outcome
-returns-in-Done c = bare_reply _ c.bare.ensures (sym (ap paper c.in-Done.is))
+returns-in-Ok c = bare_reply _ c.bare.ensures (sym (ap paper c.in-Ok.is))
 
-pub returns-in-Refused : goal.returns-in-Refused
+pub returns-in-Err : goal.returns-in-Err
 unfolding paper paper_outcome
-returns-in-Refused c = bare_reply _ c.bare-in-Refused.ensures (sym (ap paper c.in-Refused.is))
+returns-in-Err c = bare_reply _ c.bare-in-Err.ensures (sym (ap paper c.in-Err.is))

@@ -2,17 +2,18 @@
 -- Assumes nothing.
 use mathlib.Core.Path.{refl, sym, ap}
 use Rattle.paper.specs.Answers.{told_all, paper_listed, paper_list}
-use Rattle.paper.specs.declared.answer.Answer as plain
+use Rattle.std.proofs.Common.{Result}
+use Rattle.paper.specs.declared.answer.Refusal.{Refusal}
 use Rattle.request.specs.Replies.{paper_outcome}
 use Rattle.calls.proofs.ReplyLaws.{bare_reply, list_reply}
 use Rattle.calls.proofs.reply.listed.Goals as goal
 
-pub returns-in-Done : goal.returns-in-Done
-returns-in-Done c = list_reply _ c.in-Done.is refl
+pub returns-in-Ok : goal.returns-in-Ok
+returns-in-Ok c = list_reply _ c.in-Ok.is refl
 
-pub returns-in-Refused : goal.returns-in-Refused
+pub returns-in-Err : goal.returns-in-Err
 unfolding paper_outcome paper_listed paper_list
-returns-in-Refused c =
+returns-in-Err c =
     let a = c.args.answer in
-    let r = bare_reply _ c.bare.ensures (sym (ap (λ (o : plain.Answer). paper_listed o (told_all a.depots a.bearings a.words)) c.in-Refused.is)) in
+    let r = bare_reply _ c.bare.ensures (sym (ap (λ (o : Result Unit Refusal). paper_listed o (told_all a.depots a.bearings a.words)) c.in-Err.is)) in
     (r.0, λ h. r.1)
