@@ -76,7 +76,7 @@ fn read_at(
     ensures { WasRead book.now d.0 s.0 from.0 expected f.now out.old result out.new }
 {
     if d == from {
-        return FrameAnswer::Refused(FrameRefusal::Link(Refusal::SameDepot));
+        return Err(FrameRefusal::Link(Refusal::SameDepot));
     }
     let n = counts_of(book);
     read_on(
@@ -105,7 +105,7 @@ pub fn read_frame(
     ensures { WasRead book.now depot shelf from expected frame.now out.old result out.new }
 {
     match check_link(book, depot, shelf, from) {
-        Err(r) => FrameAnswer::Refused(FrameRefusal::Link(r)),
+        Err(r) => Err(FrameRefusal::Link(r)),
         Ok((d, s, o)) => read_at(book, d, s, o, expected, frame, out),
     }
 }

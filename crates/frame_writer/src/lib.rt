@@ -100,7 +100,7 @@ pub fn write_frame(
     ensures { Written book.now depot shelf from count serial out.old result out.new }
 {
     match check_link(book, depot, shelf, from) {
-        Err(r) => FrameAnswer::Refused(FrameRefusal::Link(r)),
+        Err(r) => Err(FrameRefusal::Link(r)),
         Ok((d, s, o)) => write_at(book, d, s, o, count, serial, out),
     }
 }
