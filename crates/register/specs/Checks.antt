@@ -1,10 +1,7 @@
 -- What the shared checks answer: the numbers that were named, each of its own kind, or the refusal.
 -- Assumes nothing.
 use Rattle.std.specs.Prelude.{ℕ, ◌+◌, ◌≡◌, ◌||◌, not, List, [], ◌∷◌, leb, Result, Ok, Err}
-use Rattle.book.specs.declared.numbers.Depot.{Depot}
-use Rattle.book.specs.declared.numbers.Shelf.{Shelf}
-use Rattle.book.specs.declared.numbers.Bearing.{Bearing}
-use Rattle.book.specs.declared.numbers.Crew.{Crew}
+use Rattle.book.specs.Numbers.{Depot, Shelf, Bearing, Crew}
 use Rattle.book.specs.Layout.{counts_of, home, clock}
 use Rattle.named.specs.Named.{base_fit}
 use Rattle.paper.specs.declared.answer.Payload.{Payload}
