@@ -31,14 +31,7 @@ fn places_fit(book: &[u32], n: Counts, d: Depot, q: Link, count: usize) -> bool
         × ((i : ℕ) → i < count → bearing_of (record_of (slot book.now q.0 i)) < n.bearings) × (n.bearings ≤ bearing_room) }
     ensures { result ≡ every count (λ i. stored_fit n book.now d.0 (bearing_of (record_of (slot book.now q.0 i)))) }
 {
-    let mut i = 0;
-    while i < count {
-        if !place_fits(book, n, d, q, i) {
-            return false;
-        }
-        i += 1;
-    }
-    true
+    (0..count).all(|i| place_fits(book, n, d, q, i))
 }
 
 // Whether the link into a shelf from a depot is fit, and the stored versions of its taken copies' bearings.
@@ -49,55 +42,29 @@ fn arrival_fits(book: &[u32], n: Counts, d: Depot, s: Shelf, from: Depot) -> boo
     let q = Link::between(s, from, d);
     let count = held_of(book, q);
     let taken = taken_of(book, q);
-    if LINK_ROOM < count {
+    if LINK_ROOM < count || count < taken {
         return false;
     }
-    if count < taken {
-        return false;
-    }
-    if count == 0 {
-        return true;
-    }
-    if !messages_fit(book, n, s, from, q, taken, count) {
-        return false;
-    }
-    places_fit(book, n, d, q, taken)
+    count == 0
+        || messages_fit(book, n, s, from, q, taken, count) && places_fit(book, n, d, q, taken)
 }
 
-// The same, unless that depot is this one.
-fn arrival_from_fits(book: &[u32], n: Counts, d: Depot, s: Shelf, from: Depot) -> bool
-    requires { (length book.now ≡ book_words) × Within n × (d.0 < most_depots) × (s.0 < most_shelves) × (from.0 < most_depots) }
-    ensures { result ≡ eqb from.0 d.0 || arrival_fit n book.now d.0 s.0 from.0 }
-{
-    if from.index() == d.index() {
-        return true;
-    }
-    arrival_fits(book, n, d, s, from)
-}
-
-// The same for every depot.
+// The same for every depot but this one.
 fn arrivals_fit(book: &[u32], n: Counts, d: Depot, s: Shelf) -> bool
     requires { (length book.now ≡ book_words) × Within n × (d.0 < most_depots) × (s.0 < most_shelves) }
     ensures { result ≡ every n.depots (λ from. eqb from d.0 || arrival_fit n book.now d.0 s.0 from) }
 {
-    let count = n.depots;
-    let mut i = 0;
-    while i < count {
-        if !arrival_from_fits(book, n, d, s, Depot::nth(i, count)) {
-            return false;
-        }
-        i += 1;
-    }
-    true
+    (0..n.depots).all(|i| {
+        let from = Depot::nth(i, n.depots);
+        from == d || arrival_fits(book, n, d, s, from)
+    })
 }
 
 // Whether what raise and show reads and writes at a shelf is fit.
+#[tactic(auto, unfolding(named::specs::Named::show_fit))]
 pub fn show_fits(book: &[u32], n: Counts, d: Depot, s: Shelf) -> bool
     requires { (length book.now ≡ book_words) × Within n × (d.0 < most_depots) × (s.0 < most_shelves) }
     ensures { result ≡ show_fit n book.now d.0 s.0 }
 {
-    if !stable_fits(book, n, d, s) {
-        return false;
-    }
-    arrivals_fit(book, n, d, s)
+    stable_fits(book, n, d, s) && arrivals_fit(book, n, d, s)
 }

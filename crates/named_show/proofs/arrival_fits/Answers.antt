@@ -1,41 +1,33 @@
 -- `named_show::arrival_fits` meets its contract: the link, then where its taken copies are stored.
 -- Assumes nothing.
-use native.Mathlib.Nat.{le_trans}
+use native.Mathlib.Omega.{arith}
 use mathlib.Core.Path.{◌∙◌, sym}
-use borrow.Author.Tests.{le-leb, lt-leb}
-use Rattle.loops.proofs.BoolLaws.{and_next, and_stop, test_passed, test_failed}
+use borrow.Author.Rules.{rules}
+use borrow.Author.Tests.{eq-eqb, le-leb}
+use Rattle.std.proofs.lemmas.Grind.{common_steps}
+use Rattle.loops.proofs.BoolLaws.{and_next}
 use Rattle.messages.proofs.MessageLaws.{link_empty, messages_bearings}
 use Rattle.named.proofs.NamedLaws.{arrival_heads, none_arrive}
-use borrow.Author.Rules.{rules}
 use Rattle.named_show.proofs.arrival_fits.Goals as goal
 
 pub returns-then-count-gt-LINK_ROOM : goal.returns-then-count-gt-LINK_ROOM
 returns-then-count-gt-LINK_ROOM c =
-    sym (arrival_heads _ _ _ _ _ c.between-q.ensures c.held_of-count.ensures c.taken_of-taken.ensures ∙ and_stop _ (lt-leb _ _ c.if-count-gt-LINK_ROOM.true))
-
-pub returns-then-count-taken : goal.returns-then-count-taken
-returns-then-count-taken c =
-    sym
-    (arrival_heads _ _ _ _ _ c.between-q.ensures c.held_of-count.ensures c.taken_of-taken.ensures
-    ∙ and_next _ (le-leb _ _ c.if-count-gt-LINK_ROOM.false)
-    ∙ and_stop _ (lt-leb _ _ c.if-count-taken.true))
+    let args = c.args in
+    let said = arrival_heads args.n args.book.now args.d.0 args.s.0 args.from.0 c.between-q.ensures c.held_of-count.ensures c.taken_of-taken.ensures in
+    grind (arith, common_steps)
 
 pub returns-then-count-eq0 : goal.returns-then-count-eq0
 returns-then-count-eq0 c =
-    sym
+    let none = c.if-count-eq0.true in
+    let room = c.if-count-gt-LINK_ROOM.false in
+    let under = c.if-count-taken.false in
+    eq-eqb _ _ none
+    ∙ sym
     (arrival_heads _ _ _ _ _ c.between-q.ensures c.held_of-count.ensures c.taken_of-taken.ensures
-    ∙ and_next _ (le-leb _ _ c.if-count-gt-LINK_ROOM.false)
-    ∙ and_next _ (le-leb _ _ c.if-count-taken.false)
-    ∙ and_next _ (link_empty _ _ _ _ _ c.if-count-eq0.true c.if-count-taken.false)
-    ∙ none_arrive _ c.if-count-eq0.true c.if-count-taken.false)
-
-pub returns-then-not-messages_fit : goal.returns-then-not-messages_fit
-returns-then-not-messages_fit c =
-    sym
-    (arrival_heads _ _ _ _ _ c.between-q.ensures c.held_of-count.ensures c.taken_of-taken.ensures
-    ∙ and_next _ (le-leb _ _ c.if-count-gt-LINK_ROOM.false)
-    ∙ and_next _ (le-leb _ _ c.if-count-taken.false)
-    ∙ and_stop _ (test_failed c.messages_fit.ensures c.if-not-messages_fit.true-raw))
+    ∙ and_next _ (le-leb _ _ room)
+    ∙ and_next _ (le-leb _ _ under)
+    ∙ and_next _ (link_empty _ _ _ _ _ none under)
+    ∙ none_arrive _ none under)
 
 pub places_fit-requires : goal.places_fit-requires
 places_fit-requires c =
@@ -44,16 +36,19 @@ places_fit-requires c =
       w.depots,
       c.requires.2,
       search rules,
-      le_trans c.if-count-taken.false c.if-count-gt-LINK_ROOM.false,
-      messages_bearings c.args.n c.args.book.now _ _ _ _ _ (test_passed c.messages_fit.ensures c.if-not-messages_fit.false-raw),
+      omega arith,
+      messages_bearings c.args.n c.args.book.now _ _ _ _ _ (sym c.messages_fit.ensures ∙ c.if-messages_fit.true),
       w.bearings,
     )
 
-pub returns : goal.returns
-returns c =
-    c.places_fit.ensures
-    ∙ sym
-    (arrival_heads _ _ _ _ _ c.between-q.ensures c.held_of-count.ensures c.taken_of-taken.ensures
-    ∙ and_next _ (le-leb _ _ c.if-count-gt-LINK_ROOM.false)
-    ∙ and_next _ (le-leb _ _ c.if-count-taken.false)
-    ∙ and_next _ (test_passed c.messages_fit.ensures c.if-not-messages_fit.false-raw))
+pub returns-then-messages_fit : goal.returns-then-messages_fit
+returns-then-messages_fit c =
+    let args = c.args in
+    let said = arrival_heads args.n args.book.now args.d.0 args.s.0 args.from.0 c.between-q.ensures c.held_of-count.ensures c.taken_of-taken.ensures in
+    grind (arith, common_steps)
+
+pub returns-else-messages_fit : goal.returns-else-messages_fit
+returns-else-messages_fit c =
+    let args = c.args in
+    let said = arrival_heads args.n args.book.now args.d.0 args.s.0 args.from.0 c.between-q.ensures c.held_of-count.ensures c.taken_of-taken.ensures in
+    grind (arith, common_steps)
