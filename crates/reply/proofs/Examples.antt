@@ -1,8 +1,8 @@
 -- Pages to the byte, by computing: one with an unwritten bearing, and the longest, which with its line feed fills the room of an answer.
 -- Assumes nothing.
-use Prim.Native.Nat.{ℕ, ◌+◌}
+use Prim.Native.Nat.{◌+◌}
 use mathlib.Core.Path.{◌≡◌, refl}
-use mathlib.Core.List.{List, [], ◌∷◌, ◌++◌}
+use mathlib.Core.List.{[], ◌∷◌}
 use lib.ListN.{length, replicate}
 use Rattle.loops.specs.Loops.{pick}
 use Rattle.paper.specs.Calls.{Told, read_value, read_unwritten, listed}

@@ -3,7 +3,7 @@
 use Prim.Native.Nat.{ℕ, zero, suc, ◌+◌, ◌*◌, ◌≤◌, ◌<◌}
 use native.Mathlib.Omega.{arith}
 use mathlib.Core.Path.{◌≡◌, refl, sym, ap}
-use mathlib.Core.List.{List, [], ◌∷◌, ◌++◌}
+use mathlib.Core.List.{List, [], ◌∷◌}
 use mathlib.Core.Bool.{true, false}
 use lib.ListN.{length, take, length-take, length-append, replicate}
 use Rattle.paper.specs.Calls.{Told, Answer, refused, done, reads, read_value, read_unwritten, current, superseded, listed}
@@ -13,7 +13,7 @@ use Rattle.request.specs.declared.reply.Outcome.{Outcome}
 use Rattle.request.specs.declared.reply.Reply.{Reply}
 use Rattle.line.specs.Printing.{Room, Wrote}
 use Rattle.line.proofs.PrintLaws.{wrote_same, decimal_length, stamp_answer_length}
-use Rattle.reply.specs.Printed.{told_bytes, page_bytes, printed, answer_room}
+use Rattle.reply.specs.Printed.{printed, answer_room}
 use Rattle.reply.proofs.PageLaws.{AllFew, told_length, page_length, few_depots}
 
 -- at most four entries, at most eight bearings, and of each at most four entries

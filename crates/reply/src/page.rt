@@ -35,12 +35,10 @@ fn say_page(words: &[u32], bearings: usize, depots: usize, out: &mut [u8], at: u
     ensures { Wrote out.old at (page_bytes (told_all depots bearings words.now)) out.new result }
 {
     let mut next = at;
-    let mut i = 0;
-    while i < bearings {
+    for i in 0..bearings {
         let from = TOLD_WORDS * i;
         let end = from + TOLD_WORDS;
         next = say_told(&words[from..end], depots, out, next);
-        i += 1;
     }
     next
 }

@@ -28,15 +28,7 @@ fn stores_fit(book: &[u32], n: Counts, k: Bearing) -> bool
     requires { (length book.now ≡ book_words) × (n.depots ≤ most_depots) × (k.0 < bearing_room) }
     ensures { result ≡ who_parts n book.now k.0 }
 {
-    let count = n.depots;
-    let mut i = 0;
-    while i < count {
-        if !stored_fits(book, n, Depot::nth(i, count), k) {
-            return false;
-        }
-        i += 1;
-    }
-    true
+    (0..n.depots).all(|d| stored_fits(book, n, Depot::nth(d, n.depots), k))
 }
 
 // Whether depot x stores depot d's version of a bearing or a greater one.
@@ -68,10 +60,8 @@ fn mask_of(book: &[u32], n: usize, d: Depot, k: Bearing) -> u32
     ensures { result ≡ mask_of n (has_it n book.now d.0 k.0) }
 {
     let mut mask: u32 = 0;
-    let mut x = 0;
-    while x < n {
+    for x in 0..n {
         mask = with_bit(mask, x, has_it(book, n, d, k, Depot::nth(x, n)));
-        x += 1;
     }
     mask
 }
