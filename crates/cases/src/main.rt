@@ -16,7 +16,7 @@ use rehome::move_crew;
 use reply::ANSWER_ROOM;
 use script::{is_word, repeated, runs};
 use std::io;
-use who::{WhoAnswer, who_has};
+use who::{Holders, who_has};
 use whole::is_fit;
 
 // The clock of depot 0's shelf 0.
@@ -286,8 +286,8 @@ fn case_m(book: &mut [u32], out: &mut [u8]) -> bool
 // Whether these depots, so many of them, have depot d's version of a bearing.
 fn is_told(book: &[u32], depot: u32, bearing: u32, depots: u32, number: u32) -> bool {
     match who_has(book, depot, bearing) {
-        WhoAnswer::Has { mask, count } => mask == depots && count == number,
-        WhoAnswer::Refused(_) => false,
+        Ok(Holders { mask, count }) => mask == depots && count == number,
+        Err(_) => false,
     }
 }
 

@@ -10,7 +10,7 @@ ghost use Rattle.holders.specs.Told.{who_words, told_number, told_out};
 use book::words::write_words;
 use paper::number::number_of;
 use room::NO_ROOM;
-use who::{WhoAnswer, who_has};
+use who::{Holders, who_has};
 
 // The words that the answer takes.
 const WHO_WORDS: usize = 2;
@@ -24,8 +24,8 @@ pub fn tell_who(book: &[u32], depot: u32, bearing: u32, out: &mut [u32]) -> u32
         return NO_ROOM;
     }
     match who_has(book, depot, bearing) {
-        WhoAnswer::Refused(refusal) => number_of(refusal),
-        WhoAnswer::Has { mask, count } => {
+        Err(refusal) => number_of(refusal),
+        Ok(Holders { mask, count }) => {
             let words = [mask, count];
             write_words(out, 0, &words);
             0

@@ -14,7 +14,7 @@ use Rattle.paper.specs.declared.answer.Refusal.{Refusal}
 use Rattle.paper.specs.Answers.{number_of}
 use Rattle.register.proofs.TableLaws.{first_stop, first_next, first_none}
 use Rattle.register.proofs.CallLaws.{not_done}
-use Rattle.who.specs.declared.WhoAnswer.{WhoAnswer}
+use Rattle.std.specs.Prelude.{Ok, Err}
 use Rattle.who.specs.Bits.{mask_of}
 use Rattle.who.specs.Who.{has_it, who_parts, who_fit, who_number, has, refused, paper_who, holders, who_told, WhoHas}
 use Rattle.who.proofs.MaskLaws.{mask_ones}
@@ -55,13 +55,13 @@ module _ (l : List ℕ) (d k : ℕ) where
 
   -- ---- from the number to the promise
 
-  pub who_refused : (r : Refusal) → who_number l d k ≡ number_of r → WhoHas l d k (WhoAnswer.Refused r)
+  pub who_refused : (r : Refusal) → who_number l d k ≡ number_of r → WhoHas l d k (Err r)
   unfolding paper_who who_told
   who_refused r e = record { answer = ap refused (sym e) ∙ sym (pick_false _ _ (not_done r e)) }
 
   -- with the counts, the depot and the bearing as the code has them
   pub who_done : who_number l d k ≡ 0 → {n : Counts} {e b mask : ℕ} → n ≡ counts_of l → d ≡ e → k ≡ b → mask ≡ mask_of n.depots (has_it n.depots l e b)
-      → WhoHas l d k (WhoAnswer.Has mask (ones mask))
+      → WhoHas l d k (Ok (record { mask = mask; count = ones mask }))
   unfolding paper_who who_told holders
   who_done done {n} {e} {b} same depot bearing told =
       let m = told ∙ ap (λ (n : Counts). mask_of n.depots (has_it n.depots l e b)) same

@@ -1,6 +1,6 @@
 -- Who has it: for a bearing and a depot's present version of it, which depots now store it or a greater one.
 -- Assumes nothing.
-use Rattle.std.specs.Prelude.{ℕ, ◌-◌, ◌^◌, ◌≤◌, ◌<◌, ◌≡◌, Bool, true, false, not, ◌&&◌, ◌||◌, List, [], ◌∷◌, eqb, leb}
+use Rattle.std.specs.Prelude.{ℕ, ◌-◌, ◌^◌, ◌≤◌, ◌<◌, ◌≡◌, Bool, true, false, not, ◌&&◌, ◌||◌, List, [], ◌∷◌, eqb, leb, Result, Ok, Err}
 use Rattle.std.specs.Int.Count.{ones}
 use Rattle.loops.specs.Loops.{every, pick}
 use Rattle.order.specs.Vector.{zeros}
@@ -11,8 +11,9 @@ use Rattle.book.specs.Layout.{counts_of, stored}
 use Rattle.fit.specs.Fit.{stored_fit}
 use Rattle.named.specs.Named.{base_fit}
 use Rattle.paper.specs.Calls.{first}
+use Rattle.paper.specs.declared.answer.Refusal.{Refusal}
 use Rattle.paper.specs.Answers.{number_of}
-use Rattle.who.specs.declared.WhoAnswer.{WhoAnswer}
+use Rattle.who.specs.declared.Holders.{Holders}
 use Rattle.who.specs.Bits.{bit_of, mask_of, count_of}
 
 -- depot x stores depot d's version of bearing k or a greater one: with n depots, depot d's is not above it
@@ -43,9 +44,9 @@ pub data Told : Type 0 where
   refused : ℕ → Told
   has : ℕ → ℕ → Told
 
-unfoldable pub paper_who : WhoAnswer → Told
-paper_who (WhoAnswer.Has mask count) = has mask count
-paper_who (WhoAnswer.Refused r) = refused (number_of r)
+unfoldable pub paper_who : Result Holders Refusal → Told
+paper_who (Ok h) = has h.mask h.count
+paper_who (Err r) = refused (number_of r)
 
 -- bit x for each depot x that has it, and how many depots these are
 unfoldable pub holders : List ℕ → ℕ → ℕ → Told
@@ -55,7 +56,7 @@ unfoldable pub who_told : List ℕ → ℕ → ℕ → Told
 who_told l d k = pick (eqb (who_number l d k) 0) (holders l d k) (refused (who_number l d k))
 
 -- the promise: the answer r, as it is on paper, settled by the book and what was asked. The book is lent to be read: no word of it changes
-pub record WhoHas (l : List ℕ) (d k : ℕ) (r : WhoAnswer) : Type 0 where
+pub record WhoHas (l : List ℕ) (d k : ℕ) (r : Result Holders Refusal) : Type 0 where
   pub answer : paper_who r ≡ who_told l d k
 
 -- ---- what an answer tells, bit by bit

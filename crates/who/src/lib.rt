@@ -18,9 +18,9 @@ use versions::version::stored_fits;
 
 // Which depots have it: bit d of the mask for depot d, and how many bits are set.
 #[derive(Clone, Copy)]
-pub enum WhoAnswer {
-    Has { mask: u32, count: u32 },
-    Refused(Refusal),
+pub struct Holders {
+    pub mask: u32,
+    pub count: u32,
 }
 
 // Whether the stored version of a bearing is fit at every depot.
@@ -68,25 +68,25 @@ fn mask_of(book: &[u32], n: usize, d: Depot, k: Bearing) -> u32
 
 // For a bearing and a depot's present version of it, which depots now store it or a greater one, and how many they are. Refuses, in this
 // order: BAD BOOK, BAD DEPOT, BAD KEY.
-pub fn who_has(book: &[u32], depot: u32, bearing: u32) -> WhoAnswer
+pub fn who_has(book: &[u32], depot: u32, bearing: u32) -> Result<Holders, Refusal>
     ensures { WhoHas book.now depot bearing result }
 {
     if !base_fits(book) {
-        return WhoAnswer::Refused(Refusal::BadBook);
+        return Err(Refusal::BadBook);
     }
     let n = counts_of(book);
     let Some(d) = Depot::checked(depot, n.depots) else {
-        return WhoAnswer::Refused(Refusal::BadDepot);
+        return Err(Refusal::BadDepot);
     };
     let Some(k) = Bearing::checked(bearing, n.bearings) else {
-        return WhoAnswer::Refused(Refusal::BadKey);
+        return Err(Refusal::BadKey);
     };
     if !stores_fit(book, n, k) {
-        return WhoAnswer::Refused(Refusal::BadBook);
+        return Err(Refusal::BadBook);
     }
     let mask = mask_of(book, n.depots, d, k);
-    WhoAnswer::Has {
+    Ok(Holders {
         mask: mask,
         count: u32::count_ones(mask),
-    }
+    })
 }
