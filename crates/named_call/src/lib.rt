@@ -26,24 +26,16 @@ pub fn base_fits(book: &[u32]) -> bool
         return false;
     }
     let n = counts_of(book);
-    if !counts_fit(n) {
-        return false;
-    }
-    homes_fit(book, n)
+    counts_fit(n) && homes_fit(book, n)
 }
 
 // Whether what a crew reads of a bearing is fit, at its home: depot d and shelf s.
+#[tactic(auto, unfolding(named::specs::Named::home_parts))]
 pub fn read_parts_fit(book: &[u32], n: Counts, c: Crew, k: Bearing, d: Depot, s: Shelf) -> bool
     requires { (length book.now ≡ book_words) × Within n × (c.0 < most_crews) × (k.0 < bearing_room) × (d.0 < most_depots) × (s.0 < most_shelves) }
     ensures { result ≡ home_parts n book.now c.0 k.0 d.0 s.0 }
 {
-    if !crew_fits(book, n, c) {
-        return false;
-    }
-    if !stored_fits(book, n, d, k) {
-        return false;
-    }
-    show_fits(book, n, d, s)
+    crew_fits(book, n, c) && stored_fits(book, n, d, k) && show_fits(book, n, d, s)
 }
 
 // Whether what a crew's write of a bearing reads and writes is fit, at its home: depot d and shelf s.
@@ -51,10 +43,7 @@ pub fn write_parts_fit(book: &[u32], n: Counts, c: Crew, k: Bearing, d: Depot, s
     requires { (length book.now ≡ book_words) × Within n × (c.0 < most_crews) × (k.0 < bearing_room) × (d.0 < most_depots) × (s.0 < most_shelves) }
     ensures { result ≡ home_parts n book.now c.0 k.0 d.0 s.0 && tick_parts n book.now d.0 s.0 }
 {
-    if !read_parts_fit(book, n, c, k, d, s) {
-        return false;
-    }
-    tick_parts_fit(book, n, d, s)
+    read_parts_fit(book, n, c, k, d, s) && tick_parts_fit(book, n, d, s)
 }
 
 // Whether the stamps seen on every shelf of a depot are in range.
@@ -62,37 +51,25 @@ fn seen_all_fit(book: &[u32], n: Counts, d: Depot) -> bool
     requires { (length book.now ≡ book_words) × Within n × (d.0 < most_depots) }
     ensures { result ≡ every n.shelves (seen_fit n book.now d.0) }
 {
-    let count = n.shelves;
-    let mut i = 0;
-    while i < count {
-        if !seen_fits(book, n, d, Shelf::nth(i, count)) {
-            return false;
-        }
-        i += 1;
-    }
-    true
+    (0..n.shelves).all(|i| seen_fits(book, n, d, Shelf::nth(i, n.shelves)))
 }
 
 // Whether what a refresh of a shelf reads and writes is fit.
+#[tactic(auto, unfolding(named::specs::Named::refresh_parts))]
 pub fn refresh_parts_fit(book: &[u32], n: Counts, d: Depot, s: Shelf) -> bool
     requires { (length book.now ≡ book_words) × Within n × (d.0 < most_depots) × (s.0 < most_shelves) }
     ensures { result ≡ refresh_parts n book.now d.0 s.0 }
 {
-    if !seen_all_fit(book, n, d) {
-        return false;
-    }
-    show_fits(book, n, d, s)
+    seen_all_fit(book, n, d) && show_fits(book, n, d, s)
 }
 
 // Whether what a crew's move to a depot reads is fit.
+#[tactic(auto, unfolding(named::specs::Named::move_parts))]
 pub fn move_parts_fit(book: &[u32], n: Counts, c: Crew, d: Depot) -> bool
     requires { (length book.now ≡ book_words) × Within n × (c.0 < most_crews) × (d.0 < most_depots) }
     ensures { result ≡ move_parts n book.now c.0 d.0 }
 {
-    if !crew_fits(book, n, c) {
-        return false;
-    }
-    seen_all_fit(book, n, d)
+    crew_fits(book, n, c) && seen_all_fit(book, n, d)
 }
 
 // Whether what raise and show reads and writes is fit at every shelf of a depot.
@@ -100,15 +77,7 @@ fn shows_fit(book: &[u32], n: Counts, d: Depot) -> bool
     requires { (length book.now ≡ book_words) × Within n × (d.0 < most_depots) }
     ensures { result ≡ every n.shelves (show_fit n book.now d.0) }
 {
-    let count = n.shelves;
-    let mut i = 0;
-    while i < count {
-        if !show_fits(book, n, d, Shelf::nth(i, count)) {
-            return false;
-        }
-        i += 1;
-    }
-    true
+    (0..n.shelves).all(|i| show_fits(book, n, d, Shelf::nth(i, n.shelves)))
 }
 
 // The bearing at a place of a list, all of whose numbers are below the count.
@@ -124,26 +93,14 @@ fn listed_fit(book: &[u32], n: Counts, d: Depot, bearings: &[u32]) -> bool
     requires { (length book.now ≡ book_words) × Within n × (d.0 < most_depots) × (all_below n.bearings bearings.now ≡ true) }
     ensures { result ≡ listed_fit n book.now d.0 bearings.now }
 {
-    let mut i = 0;
-    while i < bearings.len() {
-        if !stored_fits(book, n, d, bearing_at(bearings, i, n.bearings)) {
-            return false;
-        }
-        i += 1;
-    }
-    true
+    (0..bearings.len()).all(|i| stored_fits(book, n, d, bearing_at(bearings, i, n.bearings)))
 }
 
 // Whether what a crew's list of bearings reads and writes is fit, at its home.
+#[tactic(auto, unfolding(named::specs::Named::page_parts))]
 pub fn list_parts_fit(book: &[u32], n: Counts, c: Crew, bearings: &[u32], d: Depot) -> bool
     requires { (length book.now ≡ book_words) × Within n × (c.0 < most_crews) × (d.0 < most_depots) × (all_below n.bearings bearings.now ≡ true) }
     ensures { result ≡ page_parts n book.now c.0 bearings.now d.0 }
 {
-    if !crew_fits(book, n, c) {
-        return false;
-    }
-    if !listed_fit(book, n, d, bearings) {
-        return false;
-    }
-    shows_fit(book, n, d)
+    crew_fits(book, n, c) && listed_fit(book, n, d, bearings) && shows_fit(book, n, d)
 }
