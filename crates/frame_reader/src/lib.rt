@@ -104,8 +104,6 @@ pub fn read_frame(
 ) -> Result<usize, FrameRefusal>
     ensures { WasRead book.now depot shelf from expected frame.now out.old result out.new }
 {
-    match check_link(book, depot, shelf, from) {
-        Err(r) => Err(FrameRefusal::Link(r)),
-        Ok((d, s, o)) => read_at(book, d, s, o, expected, frame, out),
-    }
+    let (d, s, o) = check_link(book, depot, shelf, from)?;
+    read_at(book, d, s, o, expected, frame, out)
 }

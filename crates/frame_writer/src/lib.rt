@@ -99,8 +99,6 @@ pub fn write_frame(
 ) -> Result<usize, FrameRefusal>
     ensures { Written book.now depot shelf from count serial out.old result out.new }
 {
-    match check_link(book, depot, shelf, from) {
-        Err(r) => Err(FrameRefusal::Link(r)),
-        Ok((d, s, o)) => write_at(book, d, s, o, count, serial, out),
-    }
+    let (d, s, o) = check_link(book, depot, shelf, from)?;
+    write_at(book, d, s, o, count, serial, out)
 }

@@ -31,8 +31,6 @@ fn refresh_at(book: &mut [u32], d: Depot, s: Shelf) -> Result<(), Refusal>
 pub fn refresh(book: &mut [u32], depot: u32, shelf: u32) -> Result<(), Refusal>
     ensures { Refresh book.old depot shelf result book.new }
 {
-    match check_place(book, depot, shelf) {
-        Err(r) => Err(r),
-        Ok((d, s)) => refresh_at(book, d, s),
-    }
+    let (d, s) = check_place(book, depot, shelf)?;
+    refresh_at(book, d, s)
 }

@@ -38,8 +38,6 @@ fn take_at(book: &mut [u32], d: Depot, s: Shelf, from: Depot) -> Result<(), Refu
 pub fn take(book: &mut [u32], depot: u32, shelf: u32, from: u32) -> Result<(), Refusal>
     ensures { Take book.old depot shelf from result book.new }
 {
-    match check_link(book, depot, shelf, from) {
-        Err(r) => Err(r),
-        Ok((d, s, o)) => take_at(book, d, s, o),
-    }
+    let (d, s, o) = check_link(book, depot, shelf, from)?;
+    take_at(book, d, s, o)
 }

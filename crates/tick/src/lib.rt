@@ -40,8 +40,6 @@ fn tick_at(book: &mut [u32], d: Depot, s: Shelf) -> Result<(), Refusal>
 pub fn tick(book: &mut [u32], depot: u32, shelf: u32) -> Result<(), Refusal>
     ensures { Tick book.old depot shelf result book.new }
 {
-    match check_place(book, depot, shelf) {
-        Err(r) => Err(r),
-        Ok((d, s)) => tick_at(book, d, s),
-    }
+    let (d, s) = check_place(book, depot, shelf)?;
+    tick_at(book, d, s)
 }

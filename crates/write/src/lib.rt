@@ -56,8 +56,6 @@ pub fn write(
 ) -> Result<Written, Refusal>
     ensures { Write book.old crew bearing payload result book.new }
 {
-    match check_asked(book, crew, bearing) {
-        Err(r) => Err(r),
-        Ok((c, k)) => write_at(book, c, k, payload),
-    }
+    let (c, k) = check_asked(book, crew, bearing)?;
+    write_at(book, c, k, payload)
 }

@@ -1,7 +1,9 @@
 -- `write::write` meets its contract: the shared checks, then the rest.
 -- Assumes nothing.
 use Prim.Native.Nat.{◌<◌}
-use mathlib.Core.Path.{◌∙◌, sym, subst, subst₂}
+use native.Mathlib.Omega.{arith}
+use mathlib.Core.Path.{◌≡◌, ◌∙◌, sym, subst, subst₂}
+use Rattle.std.specs.Prelude.{Err}
 use Rattle.book.specs.Layout.{counts_of}
 use Rattle.book.specs.Numbers.{Crew, Bearing}
 use Rattle.paper.specs.Answers.{paper_write}
@@ -15,23 +17,24 @@ pub write_at-requires : goal.write_at-requires
 write_at-requires c =
     let args = c.args in
     let book = args.book.now in
-    let good = good_asked _ _ _ _ _ c.check_asked.ensures c.in-Ok.is in
+    let good = good_asked _ _ _ _ _ c.check_asked.ensures c.in_ok-c.was in
     let done = asked_done book args.crew args.bearing good.0 in (
       done.0,
       subst (λ (x : Crew). x.0 < (counts_of book).crews) good.1 done.1,
       subst (λ (x : Bearing). x.0 < (counts_of book).bearings) good.2 done.2,
     )
 
-pub returns-in-Err : goal.returns-in-Err
+pub returns-in_err-c : goal.returns-in_err-c
 unfolding paper_write
-returns-in-Err c =
-    let bad = bad_asked _ _ _ _ c.check_asked.ensures c.in-Err.is in
+returns-in_err-c c =
+    let bad = bad_asked _ _ _ _ c.check_asked.ensures c.in_err-c.was in
     let e = write_bad _ _ _ _ (not_done _ bad) ∙ bad in
-    record { answer = by_refusal _ _ e; book = after_refused _ _ _ e }
+    let answer : c.from_residual.result ≡ Err c.in_err-c.field-0.0 = grind arith in
+    rw answer (record { answer = by_refusal _ _ e; book = after_refused _ _ _ e })
 
-pub returns-in-Ok : goal.returns-in-Ok
-returns-in-Ok c =
+pub returns : goal.returns
+returns c =
     let call = c.write_at in
     let args = c.args in
-    let good = good_asked _ _ _ _ _ c.check_asked.ensures c.in-Ok.is in
+    let good = good_asked _ _ _ _ _ c.check_asked.ensures c.in_ok-c.was in
     subst₂ (λ (x : Crew) (y : Bearing). Write args.book.now x.0 y.0 args.payload call.result call.new.book) (sym good.1) (sym good.2) call.ensures
