@@ -2,15 +2,13 @@
 -- Assumes nothing.
 use Prim.Native.Nat.{ℕ, ◌+◌, ◌≤◌, ◌<◌}
 use native.Mathlib.Omega.{arith}
-use native.Mathlib.Numerals.{add-one}
 use mathlib.Core.Path.{◌≡◌, refl, sym, ◌∙◌, ap, ap₂}
 use mathlib.Core.Bool.{Bool, true, false, ◌&&◌, not, false≢true}
-use mathlib.Core.List.{List, [], ◌∷◌, ◌++◌}
+use mathlib.Core.List.{List, [], ◌∷◌}
 use lib.Dec.{eqb}
-use lib.ListN.{length, get_or, take}
-use lib.Seq.{take_all, take-suc}
+use lib.ListN.{length}
 use borrow.Author.Tests.{eqb-true, eq-eqb, ne_eqb, lt-ltb, le-ltb}
-use Rattle.loops.proofs.BoolLaws.{pick_true, pick_false, failed, and_left, and_right, and_intro, and_next, and_stop, not_failed}
+use Rattle.loops.proofs.BoolLaws.{pick_true, pick_false, and_left, and_right, and_intro, and_next, and_stop, not_failed}
 use Rattle.paper.specs.Calls.{here, later, otherwise}
 use Rattle.book.specs.Words.{put}
 use Rattle.book.specs.Layout.{book_words}
@@ -21,6 +19,7 @@ use Rattle.wire.proofs.WireLaws.{put_append}
 use Rattle.numbers.specs.Numbers.{bytes_of, words_at}
 use Rattle.numbers.proofs.NumberLaws.{length_bytes, bytes_append}
 use Rattle.numbers.proofs.OneByOne.{put_whole}
+use lib.Pointwise.{pointwise}
 use Rattle.image.specs.Image.{image_bytes, bad_image, image_head, image_of, book_in, same, head_right, save_number, load_number, saved, loaded, Saving, Loading}
 
 -- ---- a header, and numbers that are the same
@@ -46,20 +45,13 @@ unfolding same
 same_self [] = refl
 same_self (a ∷ u) = and_intro (eq-eqb a a refl) (same_self u)
 
-module _ (u v : List ℕ) (i : ℕ) where
-  -- the numbers passed are the same, and one more
-  pub take_next : i < length u → i < length v → take i u ≡ take i v → get_or u i 0 ≡ get_or v i 0 → take (i + 1) u ≡ take (i + 1) v
-  take_next h k p e =
-      ap (λ (n : ℕ). take n u) (add-one i)
-      ∙ take-suc u i 0 h
-      ∙ ap₂ (λ (l : List ℕ) (w : ℕ). l ++ w ∷ []) p e
-      ∙ sym (ap (λ (n : ℕ). take n v) (add-one i) ∙ take-suc v i 0 k)
-
-  pub same_all : length u ≤ i → length v ≤ i → take i u ≡ take i v → true ≡ same u v
-  same_all h k p = sym (ap (same u) (sym (sym (take_all i u h) ∙ p ∙ take_all i v k)) ∙ same_self u)
-
-  pub same_not : (get_or u i 0 ≡ get_or v i 0 → ⊥) → false ≡ same u v
-  same_not d = sym (failed _ (λ (h : same u v ≡ true). d (ap (λ (l : List ℕ). get_or l i 0) (same_is u v h))))
+-- the library's comparison of two runs
+pub same_pairs : (u v : List ℕ) → pointwise eqb u v ≡ same u v
+unfolding same
+same_pairs [] [] = refl
+same_pairs [] (b ∷ v) = refl
+same_pairs (a ∷ u) [] = refl
+same_pairs (a ∷ u) (b ∷ v) = ap (λ (x : Bool). eqb a b && x) (same_pairs u v)
 
 -- ---- what saving answers
 

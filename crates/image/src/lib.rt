@@ -54,21 +54,6 @@ pub fn number_in(answer: Result<(), ImageRefusal>) -> u32
     }
 }
 
-// Whether two runs of words, as long as each other, are the same.
-fn same_words(a: &[u32], b: &[u32]) -> bool
-    requires { length a.now ≡ length b.now }
-    ensures { result ≡ same a.now b.now }
-{
-    let mut i = 0;
-    while i < a.len() {
-        if a[i] != b[i] {
-            return false;
-        }
-        i += 1;
-    }
-    true
-}
-
 // The header that belongs before a book.
 fn head_of(book: &[u32]) -> [u32; HEAD_WORDS]
     requires { length book.now ≡ book_words }
@@ -93,8 +78,7 @@ fn head_is(image: &[u8], book: &[u32]) -> bool
 {
     let mut head = [0u32; HEAD_WORDS];
     read_words(image, 0, &mut head);
-    let right = head_of(book);
-    same_words(&head, &right)
+    head == head_of(book)
 }
 
 // The image of a book stands in the buffer from its first byte on. Refuses, in this order: BAD BOOK, NO ROOM.
