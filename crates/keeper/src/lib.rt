@@ -9,7 +9,7 @@ ghost use Rattle.stream.specs.Stream.{Began};
 use book::layout::BOOK_WORDS;
 use restore::files::{PATH_ROOM, create, open_update, place, sync_folder};
 use restore::image_file::load_named;
-use restore::journal_file::{Restored, is_sound, recover_file};
+use restore::journal_file::{Restored, recover_sound};
 use restore::tell::{tell, tell_failure, tell_file, tell_number, tell_unnamed};
 use serve::serve_on;
 use std::env::Env;
@@ -28,13 +28,8 @@ fn make_journal<R: Files>(files: &R, path: &[u8]) -> io::Result<R::File> {
 // The journal at a path, open for reading and writing; it is made where there is none.
 fn open_journal<R: Files>(files: &R, path: &[u8]) -> io::Result<R::File> {
     match open_update(files, path) {
-        Ok(journal) => Ok(journal),
-        Err(error) => {
-            if error.kind() == io::ErrorKind::NotFound {
-                return make_journal(files, path);
-            }
-            Err(error)
-        }
+        Err(error) if error.kind() == io::ErrorKind::NotFound => make_journal(files, path),
+        opened => opened,
     }
 }
 
@@ -87,10 +82,9 @@ fn keep_open<R: Files + Input + Print>(
 ) -> io::Result<()>
     requires { Began book.old }
 {
-    let restored = recover_file(notes, &mut journal, book);
-    if !is_sound(notes, path, &mut journal, restored) {
+    let Some(restored) = recover_sound(notes, path, &mut journal, book) else {
         return Ok(());
-    }
+    };
     if !is_ready(notes, path, &mut journal, restored) {
         return Ok(());
     }

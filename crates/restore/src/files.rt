@@ -1,5 +1,5 @@
 // Files by their names, and the folders that files lie in. A name is text in UTF-8; another is refused, and no file is touched.
-ghost use Rattle.std.specs.Prelude.{◌≡◌, ◌≤◌, length, take};
+ghost use Rattle.std.specs.Prelude.{ℕ, ◌≡◌, ◌⊎◌, [], ◌∷◌, take};
 
 use std::fs::{Files, OpenFile, OpenOptions};
 use std::{fs, io};
@@ -14,10 +14,7 @@ pub fn place(bytes: usize) -> u64 {
 
 // The text that a name is. The system's library takes no name that is not text.
 fn name_of(path: &[u8]) -> io::Result<&str> {
-    match str::from_utf8(path) {
-        Ok(name) => Ok(name),
-        Err(_) => Err(io::Error::from(io::ErrorKind::InvalidFilename)),
-    }
+    str::from_utf8(path).map_err(|_| io::Error::from(io::ErrorKind::InvalidFilename))
 }
 
 // The file at a path, open for reading.
@@ -50,29 +47,17 @@ pub fn remove(files: &impl Files, path: &[u8]) -> io::Result<()> {
     fs::remove_file(files, name_of(path)?)
 }
 
-// How many bytes of a path name the folder: those up to its last slash, that one too.
-fn folder_length(path: &[u8]) -> usize
-    ensures { (result ≤ length path.now) × (result ≡ length (take result path.now)) }
+// The folder that a path lies in: the path up to its last slash, that one too; with no slash the folder that the program runs in, `.`.
+fn folder_of(path: &[u8]) -> &[u8]
+    ensures { (result.now ≡ 46 ∷ []) ⊎ ((n : ℕ) × (result.now ≡ take n path.now)) }
 {
-    let mut i = path.len();
-    while i > 0 {
-        if path[i - 1] == b'/' {
-            return i;
-        }
-        i -= 1;
+    match path.iter().rposition(|&b| b == b'/') {
+        Some(at) => &path[..=at],
+        None => b".",
     }
-    0
-}
-
-fn sync_opened(files: &impl Files, folder: &[u8]) -> io::Result<()> {
-    open_read(files, folder)?.sync_all()
 }
 
 // The folder that a path lies in is on the disk with the names in it, so that a file which was just made or named is found after the power goes.
 pub fn sync_folder(files: &impl Files, path: &[u8]) -> io::Result<()> {
-    let n = folder_length(path);
-    if n == 0 {
-        return sync_opened(files, b".");
-    }
-    sync_opened(files, &path[..n])
+    open_read(files, folder_of(path))?.sync_all()
 }

@@ -19,16 +19,13 @@ const WHOLE: u32 = 0;
 // After so many bytes more a person who waits is told how far recovery has come.
 const TOLD_BYTES: usize = 16777216;
 
-// What has come of a journal so far: how many records were done, how many bytes they have, how many bytes were read behind those, how recovery ended, whether there may be more to read, and
-// why the file could not be read, where it could not.
+// What has come of a journal so far: how many records were done, how many bytes they have, how many bytes were read behind those, and how recovery ended.
 #[derive(Clone, Copy)]
 pub struct Restored {
     pub done: usize,
     pub bytes: usize,
     pub rest: usize,
     pub end: u32,
-    pub goes_on: bool,
-    pub failure: Option<io::Error>,
 }
 
 // The records that the bytes begin with are done on the book.
@@ -41,44 +38,24 @@ fn recover_on(book: &mut [u32], bytes: &[u8]) -> Recovered
 
 // Whether there may be more to read, behind a buffer of which so many bytes count and with this end. Where none count, its bytes are the last: no record is as long as a buffer.
 fn goes_on(counted: usize, end: u32) -> bool {
-    if counted == 0 {
-        return false;
-    }
-    end == WHOLE || end == CUT
+    counted != 0 && (end == WHOLE || end == CUT)
 }
 
-fn tell_progress(notes: &(impl Print + IsTerminal), before: usize, bytes: usize, done: usize) {
-    if before / TOLD_BYTES < bytes / TOLD_BYTES {
-        if notes.is_terminal() {
-            tell(notes, b"desk: recovering, ");
-            tell_number(notes, done as u64);
-            tell(notes, b" records so far\n");
-        }
+fn tell_progress(notes: &(impl Print + IsTerminal), before: usize, so_far: Restored) {
+    if before / TOLD_BYTES < so_far.bytes / TOLD_BYTES && notes.is_terminal() {
+        tell(notes, b"desk: recovering, ");
+        tell_number(notes, so_far.done as u64);
+        tell(notes, b" records so far\n");
     }
 }
 
 // What has come of a journal, with what is told of so many bytes more. No file is so long that a sum wraps, and no more bytes count than were read.
-fn counted_on(
-    notes: &(impl Print + IsTerminal),
-    so_far: Restored,
-    told: Recovered,
-    count: usize,
-    failure: Option<io::Error>,
-) -> Restored {
-    let counted = told.bytes;
-    let end = told.end;
-    let done = std::num::wrapping_add_usize(so_far.done, told.done);
-    let bytes = std::num::wrapping_add_usize(so_far.bytes, counted);
-    let rest = std::num::wrapping_sub_usize(count, counted);
-    let more = goes_on(counted, end);
-    tell_progress(notes, so_far.bytes, bytes, done);
+fn counted_on(so_far: Restored, told: Recovered, count: usize) -> Restored {
     Restored {
-        done: done,
-        bytes: bytes,
-        rest: rest,
-        end: end,
-        goes_on: more,
-        failure: failure,
+        done: so_far.done.wrapping_add(told.done),
+        bytes: so_far.bytes.wrapping_add(told.bytes),
+        rest: count.wrapping_sub(told.bytes),
+        end: told.end,
     }
 }
 
@@ -90,27 +67,23 @@ fn read_behind<F: Read + Seek>(file: &mut F, bytes: usize, buffer: &mut [u8]) ->
     file.read(buffer)
 }
 
-// A buffer of the journal's bytes, from behind those that count so far on, is read, and the records that it begins with are done on the book.
+// A buffer of the journal's bytes, from behind those that count so far on, is read, and the records that it begins with are done on the book. Whether there may be more to read.
 fn recover_more<F: Read + Seek>(
     notes: &(impl Print + IsTerminal),
     journal: &mut F,
     book: &mut [u32],
     buffer: &mut [u8],
-    so_far: Restored,
-) -> Restored
+    so_far: &mut Restored,
+) -> io::Result<bool>
     requires { Began book.old }
     ensures { Began book.new }
 {
-    match read_behind(journal, so_far.bytes, buffer) {
-        Ok(n) => {
-            let told = recover_on(book, &buffer[..n]);
-            counted_on(notes, so_far, told, n, None)
-        }
-        Err(error) => {
-            let told = recover_on(book, &[]);
-            counted_on(notes, so_far, told, 0, Some(error))
-        }
-    }
+    let before = so_far.bytes;
+    let n = read_behind(journal, before, buffer)?;
+    let told = recover_on(book, &buffer[..n]);
+    *so_far = counted_on(*so_far, told, n);
+    tell_progress(notes, before, *so_far);
+    Ok(goes_on(told.bytes, told.end))
 }
 
 // The records of a journal are done on the book, as long as they come and are done.
@@ -119,7 +92,7 @@ fn recover_all<F: Read + Seek>(
     journal: &mut F,
     book: &mut [u32],
     buffer: &mut [u8],
-) -> Restored
+) -> io::Result<Restored>
     requires { Began book.old }
     ensures { Began book.new }
 {
@@ -128,24 +101,21 @@ fn recover_all<F: Read + Seek>(
         bytes: 0,
         rest: 0,
         end: WHOLE,
-        goes_on: true,
-        failure: None,
     };
     'buffers: for _ in 0..u64::MAX {
-        so_far = recover_more(notes, journal, book, buffer, so_far);
-        if !so_far.goes_on {
+        if !recover_more(notes, journal, book, buffer, &mut so_far)? {
             break 'buffers;
         }
     }
-    so_far
+    Ok(so_far)
 }
 
-// The book becomes that after the records of an open journal. Any bytes are taken.
+// The book becomes that after the records of an open journal, any bytes. What came of it, or why the file could not be read.
 pub fn recover_file<F: Read + Seek>(
     notes: &(impl Print + IsTerminal),
     journal: &mut F,
     book: &mut [u32],
-) -> Restored
+) -> io::Result<Restored>
     requires { Began book.old }
     ensures { Began book.new }
 {
@@ -158,7 +128,7 @@ fn tell_stop(notes: &impl Print, path: &[u8], restored: Restored) {
     let end = restored.end;
     tell_file(notes, path);
     tell(notes, b"record ");
-    tell_number(notes, std::num::wrapping_add_u64(restored.done as u64, 1));
+    tell_number(notes, (restored.done as u64).wrapping_add(1));
     tell(notes, b", at byte ");
     tell_number(notes, restored.bytes as u64);
     if end == BAD_RECORD {
@@ -177,7 +147,7 @@ fn tell_stop(notes: &impl Print, path: &[u8], restored: Restored) {
 
 // Whether the file ends where it was read to; else a line says so.
 fn is_all<F: Seek>(notes: &impl Print, path: &[u8], journal: &mut F, restored: Restored) -> bool {
-    let end = place(std::num::wrapping_add_usize(restored.bytes, restored.rest));
+    let end = place(restored.bytes.wrapping_add(restored.rest));
     if let Ok(at) = journal.seek(SeekFrom::End(0)) {
         if at == end {
             return true;
@@ -196,19 +166,29 @@ pub fn is_sound<F: Seek>(
     journal: &mut F,
     restored: Restored,
 ) -> bool {
-    if let Some(error) = restored.failure {
-        tell_failure(notes, path, &error);
-        return false;
-    }
     let end = restored.end;
-    if end == WHOLE {
+    if end == WHOLE || end == CUT && restored.rest < RECORD_ROOM {
         return is_all(notes, path, journal, restored);
-    }
-    if end == CUT {
-        if restored.rest < RECORD_ROOM {
-            return is_all(notes, path, journal, restored);
-        }
     }
     tell_stop(notes, path, restored);
     false
+}
+
+// The book becomes that after the records of an open journal. What came of the journal, if it was read to its end and nothing in it is wrong; else a line says what.
+pub fn recover_sound<F: Read + Seek>(
+    notes: &(impl Print + IsTerminal),
+    path: &[u8],
+    journal: &mut F,
+    book: &mut [u32],
+) -> Option<Restored>
+    requires { Began book.old }
+    ensures { Began book.new }
+{
+    match recover_file(notes, journal, book) {
+        Ok(restored) => is_sound(notes, path, journal, restored).then_some(restored),
+        Err(error) => {
+            tell_failure(notes, path, &error);
+            None
+        }
+    }
 }

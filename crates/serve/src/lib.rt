@@ -30,8 +30,7 @@ const LOG_ROOM: usize = RECORD_ROOM * 4097;
 
 // Writes the answers, and keeps none back. Where they cannot be written, a line says so; `notes` is what a person reads, standard error.
 fn write_answers<O: Write>(notes: &impl Print, to: &mut O, said: &[u8]) -> bool {
-    let written = write_through(to, said);
-    if written.is_err() {
+    if write_through(to, said).is_err() {
         let _ = notes.print("desk: an answer could not be written\n");
         return false;
     }
@@ -63,7 +62,7 @@ fn keep_records<F: Write + Seek + OpenFile>(
     let Some(file) = journal else {
         return true;
     };
-    if records.len() == 0 {
+    if records.is_empty() {
         return true;
     }
     let end = file.stream_position();
@@ -109,17 +108,11 @@ fn turn<I: Read, O: Write, F: Write + Seek + OpenFile>(
 {
     let n = from.read(input)?;
     let at = keep_piece(book, line, &input[..n], out, log);
-    let records = at.log;
-    let answers = at.out;
-    if !keep_records(notes, journal, &log[..records]) {
-        return Ok(Told {
-            count: n,
-            given: false,
-        });
-    }
+    let given = keep_records(notes, journal, &log[..at.log])
+        && write_answers(notes, to, &out[..at.out]);
     Ok(Told {
         count: n,
-        given: write_answers(notes, to, &out[..answers]),
+        given: given,
     })
 }
 
