@@ -5,8 +5,9 @@ use mathlib.Core.Path.{◌∙◌, sym, subst, subst₂}
 use Rattle.book.specs.Layout.{counts_of}
 use Rattle.book.specs.declared.numbers.Crew.{Crew}
 use Rattle.book.specs.declared.numbers.Bearing.{Bearing}
+use Rattle.paper.specs.Answers.{paper_read}
 use Rattle.register.specs.Promises.{Read}
-use Rattle.register.proofs.CallLaws.{bad_asked, good_asked, not_done, read_refused, after_refused}
+use Rattle.register.proofs.CallLaws.{bad_asked, good_asked, not_done, by_refusal, after_refused}
 use Rattle.register.proofs.SendTable.{read_bad}
 use Rattle.register.proofs.Numbers.{asked_done}
 use Rattle.read.proofs.read.Goals as goal
@@ -23,11 +24,11 @@ read_at-requires c =
     )
 
 pub returns-in-Bad : goal.returns-in-Bad
+unfolding paper_read
 returns-in-Bad c =
     let bad = bad_asked _ _ _ _ c.check_asked.ensures c.in-Bad.is in
     let e = read_bad _ _ _ (not_done _ bad) ∙ bad in
-    let told = read_refused _ _ c.refused.ensures e in
-    record { answer = told.0; holds = told.1; book = after_refused _ _ _ e }
+    record { answer = by_refusal _ _ e; holds = tt; book = after_refused _ _ _ e }
 
 pub returns-in-Good : goal.returns-in-Good
 returns-in-Good c =
