@@ -9,9 +9,9 @@ use Rattle.register.specs.Promises as promises
 use Rattle.paper.specs.declared.answer.Payload.{Payload}
 use Rattle.paper.specs.Answers.{paper, paper_read, paper_write, paper_list}
 use Rattle.paper.specs.declared.answer.Refusal.{Refusal}
-use Rattle.paper.specs.declared.answer.ReadAnswer.{ReadAnswer}
+use Rattle.paper.specs.declared.answer.Reading.{Reading}
 use Rattle.paper.specs.declared.answer.Written.{Written}
-use Rattle.paper.specs.declared.answer.ListAnswer.{ListAnswer}
+use Rattle.paper.specs.declared.answer.Page.{Page}
 use Rattle.model.specs.Parts.{fresh}
 use Rattle.paper.specs.Calls.{Call, read, write, tick, take, refresh, move, list, Answer, done, answer_by}
 use Rattle.model.specs.Calls.{setup, step}
@@ -36,7 +36,7 @@ pub record BridgedSetup (l : List ℕ) (n : Counts) (homes : List ℕ) (answer :
 pub record Bridge : Type 0 where
   pub of_setup : (l : List ℕ) → length l ≡ book_words → (n : Counts) (homes : List ℕ) (r : Result Unit Refusal) (l' : List ℕ) → promises.Setup l n homes r l'
       → BridgedSetup l n homes (paper r) l'
-  pub of_read : (l : List ℕ) → fit l ≡ true → (c k : ℕ) (r : ReadAnswer) (l' : List ℕ) → promises.Read l c k r l'
+  pub of_read : (l : List ℕ) → fit l ≡ true → (c k : ℕ) (r : Result Reading Refusal) (l' : List ℕ) → promises.Read l c k r l'
       → Bridged l (read c k) (paper_read r) l'
   pub of_write : (l : List ℕ) → fit l ≡ true → (c k : ℕ) (payload : Payload) (r : Result Written Refusal) (l' : List ℕ) → promises.Write l c k payload r l'
       → Bridged l (write c k payload) (paper_write r) l'
@@ -46,5 +46,5 @@ pub record Bridge : Type 0 where
   pub of_refresh : (l : List ℕ) → fit l ≡ true → (d s : ℕ) (r : Result Unit Refusal) (l' : List ℕ) → promises.Refresh l d s r l'
       → Bridged l (refresh d s) (paper r) l'
   pub of_move : (l : List ℕ) → fit l ≡ true → (c d : ℕ) (r : Result Unit Refusal) (l' : List ℕ) → promises.Move l c d r l' → Bridged l (move c d) (paper r) l'
-  pub of_list : (l : List ℕ) → fit l ≡ true → (c : ℕ) (ks : List ℕ) (r : ListAnswer) (l' : List ℕ) → promises.Listing l c ks r l'
+  pub of_list : (l : List ℕ) → fit l ≡ true → (c : ℕ) (ks : List ℕ) (r : Result Page Refusal) (l' : List ℕ) → promises.Listing l c ks r l'
       → Bridged l (list c ks) (paper_list r) l'

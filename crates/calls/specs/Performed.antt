@@ -1,7 +1,8 @@
 -- What the dispatcher promises: the reply, as it is on paper, and every word of the book after it.
 -- Assumes nothing.
-use Rattle.std.specs.Prelude.{ℕ, ◌≡◌, List}
+use Rattle.std.specs.Prelude.{ℕ, ◌≡◌, List, Result}
 use Rattle.paper.specs.Calls.{read, write, tick, take, refresh, move, list}
+use Rattle.paper.specs.declared.answer.Refusal.{Refusal}
 use Rattle.request.specs.Requests.{request_in, beside_in}
 use Rattle.request.specs.Replies.{on_paper, Carries}
 use Rattle.request.specs.declared.ask.Event.{Event}
@@ -25,7 +26,7 @@ unfoldable pub request_of : Event → List ℕ → Request
 request_of e ns = asked (request_in e ns) (beside_in e ns)
 
 -- the request r to the book l is replied to with a, and leaves the book l'
-pub record Performed (l : List ℕ) (r : Request) (a : Reply) (l' : List ℕ) : Type 0 where
+pub record Performed (l : List ℕ) (r : Request) (a : Result Reply Refusal) (l' : List ℕ) : Type 0 where
   pub answer : on_paper a ≡ reply_to l r
   pub holds : Carries (on_paper a) a
   pub book : l' ≡ book_after l r

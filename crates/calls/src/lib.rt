@@ -2,4 +2,3 @@
 #![tactic(auto)]
 
 pub mod perform;
-pub mod reply;

@@ -26,11 +26,9 @@ pub fn tell_list(book: &mut [u32], crew: u32, bearings: &[u32], out: &mut [u32])
     if out.len() < LIST_WORDS {
         return NO_ROOM;
     }
-    let answer = list(book, crew, bearings);
-    let outcome = answer.outcome;
-    let words = answer.words;
-    match outcome {
-        Ok(()) => {
+    match list(book, crew, bearings) {
+        Ok(page) => {
+            let words = page.words;
             fill(out, &words);
             0
         }

@@ -2,11 +2,11 @@
 -- Assumes nothing.
 use Prim.Native.Nat.{ℕ, ◌≤◌, ◌<◌}
 use native.Mathlib.Omega.{arith}
-use mathlib.Core.Path.{◌≡◌, refl, sym, ◌∙◌, ap, ap₂, subst, subst₂}
+use mathlib.Core.Path.{◌≡◌, sym, ◌∙◌, ap, ap₂, subst, subst₂}
 use mathlib.Core.List.{List, [], ◌∷◌, map}
 use mathlib.Core.Bool.{true}
-use lib.ListN.{length, length-map, replicate}
-use Rattle.std.proofs.Common.{Ok, Err}
+use lib.ListN.{length, length-map}
+use Rattle.std.proofs.Common.{Ok}
 use Rattle.loops.proofs.BoolLaws.{and_right}
 use Rattle.loops.proofs.LoopLaws.{every_at}
 use Rattle.order.specs.Vector.{vector_in}
@@ -17,26 +17,16 @@ use Rattle.named.specs.Named.{listed_fit, page_parts, list_parts}
 use Rattle.named.proofs.NamedLaws.{Based}
 use Rattle.shelf.specs.Asks.{Ready}
 use Rattle.links.specs.Send.{four_of}
-use Rattle.paper.specs.Calls.{Told, Answer, listed, answer_by}
-use Rattle.paper.specs.declared.answer.Refusal.{Refusal}
-use Rattle.paper.specs.declared.answer.ListAnswer.{ListAnswer}
-use Rattle.paper.specs.Answers.{number_of, told_all, paper_listed, paper_list, tellings, entries_told, depots_told, page_words, HoldsAll}
+use Rattle.paper.specs.Calls.{Told, listed}
+use Rattle.paper.specs.declared.answer.Page.{Page}
+use Rattle.paper.specs.Answers.{told_all, paper_list, tellings, entries_told, depots_told, page_words, HoldsAll}
 use Rattle.paper.proofs.Pages.{told_back}
 use Rattle.register.specs.Answers.{told}
 use Rattle.register.specs.Calls.{gathered_from, settled_all, merged_all, page_vector, page_book, page_told, list_book}
 use Rattle.register.proofs.FitReady.{show_ready}
-use Rattle.register.proofs.CallLaws.{by_refusal}
 use Rattle.moment.proofs.MomentLaws.{record_back, record_entries}
 
 -- ---- the answer
-
--- a list that is refused tells of no bearing
-pub list_refused :
-    {n : ℕ} (r : Refusal) {a : ListAnswer} (b : Answer) → a ≡ record { outcome = Err r; bearings = 0; depots = 0; words = replicate 64 0 } → n ≡ number_of r →
-    (paper_list a ≡ answer_by n b) × HoldsAll (paper_list a) a
-unfolding paper_list paper_listed tellings depots_told page_words
-list_refused {n} r b q e =
-    subst (λ (x : ListAnswer). (paper_list x ≡ answer_by n b) × HoldsAll (paper_list x) x) (sym q) (by_refusal r b e, record { words = refl; bearings = refl; depots = refl })
 
 -- a list that is done tells of each
 depots_told_law : (n : ℕ) (f : ℕ → Told) (ks : List ℕ) → ((k : ℕ) → n ≡ length (entries_told (f k))) → 1 ≤ length ks → n ≡ depots_told (map f ks)
@@ -46,9 +36,9 @@ depots_told_law n f (k ∷ ks) h l = h k
 
 pub list_told :
     (n : ℕ) (r : ℕ → List ℕ) (ks : List ℕ) {w : List ℕ} → n ≤ 4 → 1 ≤ length ks → length ks ≤ 8 → w ≡ page_words 8 (map (λ k. told n (r k)) ks) →
-    let a : ListAnswer = record { outcome = Ok tt; bearings = length ks; depots = n; words = w } in
-    (paper_list a ≡ listed (map (λ k. told n (r k)) ks)) × HoldsAll (paper_list a) a
-unfolding paper_list paper_listed tellings
+    let a : Page = record { bearings = length ks; depots = n; words = w } in
+    (paper_list (Ok a) ≡ listed (map (λ k. told n (r k)) ks)) × HoldsAll (paper_list (Ok a)) a
+unfolding paper_list tellings
 list_told n r ks {w} h a b e =
     let back = ap (told_all n (length ks)) e ∙ told_back n 8 (λ k. told n (r k)) (λ k. record_back n (r k) h) ks b in (
       ap listed back,

@@ -4,18 +4,18 @@ use Prim.Native.Nat.{ℕ}
 use mathlib.Core.Path.{◌≡◌, refl, sym, ◌∙◌, ap}
 use mathlib.Core.List.{List, [], ◌∷◌}
 use lib.Dec.{eqb}
-use lib.ListN.{length}
-use Rattle.std.proofs.Common.{Result, Ok, Err}
+use lib.ListN.{length, take}
+use Rattle.std.specs.Prelude.{Option, Some, None, Result, Ok, Err, IfOk}
 use Rattle.loops.specs.Loops.{pick}
 use Rattle.paper.specs.Calls.{Told, read_value, read_unwritten, Answer, refused, done, reads, current, superseded, listed}
 use Rattle.paper.specs.declared.answer.Refusal.{Refusal}
 use Rattle.paper.specs.declared.answer.Refusal.TheVariants.{BadBook, BadDepot, BadShelf, BadKey, BadCrew, SameDepot, EmptyLink, Wait}
 use Rattle.paper.specs.declared.answer.Refusal.TheVariants.{LinkFull, ClockAtEnd, BadCounts, NotHereYet, BadDate, BadCard, BadList}
-use Rattle.paper.specs.declared.answer.Finding.{Finding}
-use Rattle.paper.specs.declared.answer.ReadAnswer.{ReadAnswer}
+use Rattle.paper.specs.declared.answer.Payload.{Payload}
+use Rattle.paper.specs.declared.answer.Reading.{Reading}
 use Rattle.paper.specs.declared.answer.Written.{Written}
-use Rattle.paper.specs.declared.answer.ListAnswer.{ListAnswer}
-use Rattle.paper.specs.Answers.{number_of, paper, paper_found, paper_read, paper_write, paper_listed, paper_list, entries_in, padded, Holds, tellings, depots_told, page_words, HoldsAll}
+use Rattle.paper.specs.declared.answer.Page.{Page}
+use Rattle.paper.specs.Answers.{number_of, paper, paper_found, paper_read, paper_write, told_all, paper_list, entries_in, padded, Holds, tellings, depots_told, page_words, HoldsAll}
 
 -- ---- refusals
 
@@ -67,29 +67,48 @@ plain_back (Err r) = ap Err (refusal_back r)
 pub plain_settles : (a b : Result Unit Refusal) → paper a ≡ paper b → a ≡ b
 plain_settles a b e = sym (plain_back a) ∙ ap plain_at e ∙ plain_back b
 
-finding_at : Answer → Finding
-finding_at (refused n) = Finding.Refused (refusal_at n)
-finding_at done = Finding.Unwritten
-finding_at (reads (read_value v u)) = Finding.Value v
-finding_at (reads (read_unwritten u)) = Finding.Unwritten
-finding_at (current stamp) = Finding.Unwritten
-finding_at (superseded stamp) = Finding.Unwritten
-finding_at (listed told) = Finding.Unwritten
+-- what a read tells, with what was found and its entries
+pub reading_of : Option Payload → List ℕ → Reading
+reading_of f u = record { payload = f; vector = padded u; depots = length u }
 
-finding_back : (f : Finding) (u : List ℕ) → finding_at (paper_found f u) ≡ f
-unfolding paper_found finding_at
-finding_back (Finding.Value v) u = refl
-finding_back Finding.Unwritten u = refl
-finding_back (Finding.Refused r) u = ap Finding.Refused (refusal_back r)
+entries_found : (f : Option Payload) (u : List ℕ) → entries_in (paper_found f u) ≡ u
+unfolding paper_found entries_in
+entries_found (Some p) u = refl
+entries_found None u = refl
+
+pub reading_back : (a : Reading) → Holds (paper_read (Ok a)) a.vector a.depots → reading_of a.payload (take a.depots a.vector) ≡ a
+unfolding paper_read reading_of
+reading_back a h =
+    let u = entries_found a.payload (take a.depots a.vector) in
+    let v = ap padded (sym u) ∙ sym h.vector in
+    let n = ap (λ (x : List ℕ). length x) (sym u) ∙ sym h.count in
+    λ i. record { payload = a.payload; vector = v i; depots = n i }
+
+unfoldable pub reading_at : Told → Reading
+reading_at (read_value p u) = reading_of (Some p) u
+reading_at (read_unwritten u) = reading_of None u
+
+read_at : Answer → Result Reading Refusal
+read_at (refused n) = Err (refusal_at n)
+read_at done = Err BadBook
+read_at (reads t) = Ok (reading_at t)
+read_at (current stamp) = Err BadBook
+read_at (superseded stamp) = Err BadBook
+read_at (listed told) = Err BadBook
+
+found_back : (f : Option Payload) (u : List ℕ) → read_at (paper_found f u) ≡ Ok (reading_of f u)
+unfolding paper_found read_at reading_at
+found_back (Some p) u = refl
+found_back None u = refl
+
+read_back : (a : Result Reading Refusal) → IfOk a (λ x. Holds (paper_read a) x.vector x.depots) → read_at (paper_read a) ≡ a
+unfolding paper_read read_at
+read_back (Ok a) h = found_back a.payload _ ∙ ap Ok (reading_back a h)
+read_back (Err r) h = ap Err (refusal_back r)
 
 pub read_settles :
-    (a b : ReadAnswer) → paper_read a ≡ paper_read b → Holds (paper_read a) a.vector a.depots → Holds (paper_read b) b.vector b.depots → a ≡ b
-unfolding paper_read
-read_settles a b e h k =
-    let f = sym (finding_back a.finding _) ∙ ap finding_at e ∙ finding_back b.finding _ in
-    let v = h.vector ∙ ap (λ (x : Answer). padded (entries_in x)) e ∙ sym k.vector in
-    let n = h.count ∙ ap (λ (x : Answer). length (entries_in x)) e ∙ sym k.count in
-    λ i. record { finding = f i; vector = v i; depots = n i }
+    (a b : Result Reading Refusal) → paper_read a ≡ paper_read b → IfOk a (λ x. Holds (paper_read a) x.vector x.depots) → IfOk b (λ x. Holds (paper_read b) x.vector x.depots) → a ≡ b
+read_settles a b e h k = sym (read_back a h) ∙ ap read_at e ∙ read_back b k
 
 written_at : Answer → Result Written Refusal
 written_at (refused n) = Err (refusal_at n)
@@ -108,16 +127,31 @@ written_back (Err r) = ap Err (refusal_back r)
 pub written_settles : (a b : Result Written Refusal) → paper_write a ≡ paper_write b → a ≡ b
 written_settles a b e = sym (written_back a) ∙ ap written_at e ∙ written_back b
 
-listed_back : (a : Result Unit Refusal) (ts : List Told) → plain_at (paper_listed a ts) ≡ a
-unfolding paper_listed plain_at
-listed_back (Ok u) ts = refl
-listed_back (Err r) ts = ap Err (refusal_back r)
+-- what a list tells, got back from what is told of each bearing
+pub page_of : List Told → Page
+page_of ts = record { bearings = length ts; depots = depots_told ts; words = page_words 8 ts }
 
-pub list_settles : (a b : ListAnswer) → paper_list a ≡ paper_list b → HoldsAll (paper_list a) a → HoldsAll (paper_list b) b → a ≡ b
-unfolding paper_list
-list_settles a b e h k =
-    let o = sym (listed_back a.outcome _) ∙ ap plain_at e ∙ listed_back b.outcome _ in
-    let w = h.words ∙ ap (λ (x : Answer). page_words 8 (tellings x)) e ∙ sym k.words in
-    let m = h.bearings ∙ ap (λ (x : Answer). length (tellings x)) e ∙ sym k.bearings in
-    let n = h.depots ∙ ap (λ (x : Answer). depots_told (tellings x)) e ∙ sym k.depots in
-    λ i. record { outcome = o i; bearings = m i; depots = n i; words = w i }
+pub page_back : (a : Page) → HoldsAll (paper_list (Ok a)) a → page_of (told_all a.depots a.bearings a.words) ≡ a
+unfolding paper_list tellings page_of
+page_back a h =
+    let m = sym h.bearings in
+    let n = sym h.depots in
+    let w = sym h.words in
+    λ i. record { bearings = m i; depots = n i; words = w i }
+
+listed_at : Answer → Result Page Refusal
+listed_at (refused n) = Err (refusal_at n)
+listed_at done = Err BadBook
+listed_at (reads t) = Err BadBook
+listed_at (current stamp) = Err BadBook
+listed_at (superseded stamp) = Err BadBook
+listed_at (listed told) = Ok (page_of told)
+
+listed_back : (a : Result Page Refusal) → IfOk a (λ x. HoldsAll (paper_list a) x) → listed_at (paper_list a) ≡ a
+unfolding paper_list listed_at
+listed_back (Ok a) h = ap Ok (page_back a h)
+listed_back (Err r) h = ap Err (refusal_back r)
+
+pub list_settles :
+    (a b : Result Page Refusal) → paper_list a ≡ paper_list b → IfOk a (λ x. HoldsAll (paper_list a) x) → IfOk b (λ x. HoldsAll (paper_list b) x) → a ≡ b
+list_settles a b e h k = sym (listed_back a h) ∙ ap listed_at e ∙ listed_back b k

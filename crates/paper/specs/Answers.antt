@@ -1,14 +1,14 @@
 -- Each answer as the paper has it: the number of a refusal, and of what is done its values.
 -- Assumes nothing.
-use Rattle.std.specs.Prelude.{ℕ, zero, suc, ◌≡◌, List, [], ◌∷◌, ◌++◌, eqb, length, get_or, take, drop, replicate, Result, Ok, Err}
+use Rattle.std.specs.Prelude.{ℕ, zero, suc, ◌≡◌, List, [], ◌∷◌, ◌++◌, eqb, length, get_or, take, drop, replicate, Option, Some, None, Result, Ok, Err}
 use Rattle.loops.specs.Loops.{pick}
 use Rattle.paper.specs.declared.answer.Refusal.{Refusal}
 use Rattle.paper.specs.declared.answer.Refusal.TheVariants.{BadBook, BadDepot, BadShelf, BadKey, BadCrew, SameDepot, EmptyLink, Wait}
 use Rattle.paper.specs.declared.answer.Refusal.TheVariants.{LinkFull, ClockAtEnd, BadCounts, NotHereYet, BadDate, BadCard, BadList}
-use Rattle.paper.specs.declared.answer.Finding.{Finding}
-use Rattle.paper.specs.declared.answer.ReadAnswer.{ReadAnswer}
+use Rattle.paper.specs.declared.answer.Payload.{Payload}
+use Rattle.paper.specs.declared.answer.Reading.{Reading}
 use Rattle.paper.specs.declared.answer.Written.{Written}
-use Rattle.paper.specs.declared.answer.ListAnswer.{ListAnswer}
+use Rattle.paper.specs.declared.answer.Page.{Page}
 use Rattle.paper.specs.Calls.{Told, read_value, read_unwritten, Answer, refused, done, reads, current, superseded, listed}
 
 -- the number of a refusal
@@ -35,14 +35,14 @@ paper (Ok u) = done
 paper (Err r) = refused (number_of r)
 
 -- what a read found, with the entries u of its vector
-unfoldable pub paper_found : Finding → List ℕ → Answer
-paper_found (Finding.Value p) u = reads (read_value p u)
-paper_found Finding.Unwritten u = reads (read_unwritten u)
-paper_found (Finding.Refused r) u = refused (number_of r)
+unfoldable pub paper_found : Option Payload → List ℕ → Answer
+paper_found (Some p) u = reads (read_value p u)
+paper_found None u = reads (read_unwritten u)
 
 -- the answer of a read
-unfoldable pub paper_read : ReadAnswer → Answer
-paper_read a = paper_found a.finding (take a.depots a.vector)
+unfoldable pub paper_read : Result Reading Refusal → Answer
+paper_read (Ok a) = paper_found a.payload (take a.depots a.vector)
+paper_read (Err r) = refused (number_of r)
 
 -- the answer of a write
 unfoldable pub paper_write : Result Written Refusal → Answer
@@ -63,12 +63,9 @@ told_all n zero w = []
 told_all n (suc i) w = told_in n (take 8 w) ∷ told_all n i (drop 8 w)
 
 -- the answer of a list, with what it tells
-unfoldable pub paper_listed : Result Unit Refusal → List Told → Answer
-paper_listed (Ok u) ts = listed ts
-paper_listed (Err r) ts = refused (number_of r)
-
-unfoldable pub paper_list : ListAnswer → Answer
-paper_list a = paper_listed a.outcome (told_all a.depots a.bearings a.words)
+unfoldable pub paper_list : Result Page Refusal → Answer
+paper_list (Ok a) = listed (told_all a.depots a.bearings a.words)
+paper_list (Err r) = refused (number_of r)
 
 -- ---- the room of a vector
 
@@ -124,7 +121,7 @@ page_words (suc i) [] = replicate 8 0 ++ page_words i []
 page_words (suc i) (t ∷ ts) = told_words t ++ page_words i ts
 
 -- the room of a list's answer holds what the answer a tells and nothing else
-pub record HoldsAll (a : Answer) (r : ListAnswer) : Type 0 where
+pub record HoldsAll (a : Answer) (r : Page) : Type 0 where
   pub words : r.words ≡ page_words 8 (tellings a)
   pub bearings : r.bearings ≡ length (tellings a)
   pub depots : r.depots ≡ depots_told (tellings a)

@@ -31,18 +31,10 @@ pub struct Payload {
     pub width: u32,
 }
 
-// What a read finds: a value with its card, or that the bearing is unwritten.
+// What a read tells: the value with its card, none where the bearing is unwritten, and the version's vector, of which the first `depots` entries count. 0 stands elsewhere.
 #[derive(Clone, Copy)]
-pub enum Finding {
-    Value(Payload),
-    Unwritten,
-    Refused(Refusal),
-}
-
-// The answer of a read, with the version's vector beside it: its first `depots` entries count, and 0 stands elsewhere; if refused, none does.
-#[derive(Clone, Copy)]
-pub struct ReadAnswer {
-    pub finding: Finding,
+pub struct Reading {
+    pub payload: Option<Payload>,
     pub vector: [u32; 4],
     pub depots: usize,
 }
@@ -54,11 +46,10 @@ pub enum Written {
     Superseded(u32),
 }
 
-// The answer of a list: eight words for each bearing, in list order, in room for eight bearings. They are 1 and the value with its card's two words, or 1's place and these 0 where
-// the bearing is unwritten; then room for the four entries of its vector, of which the first `depots` count. 0 stands elsewhere; if refused, everywhere.
+// What a list tells: eight words for each bearing, in list order, in room for eight bearings. They are 1 and the value with its card's two words, or 1's place and these 0 where
+// the bearing is unwritten; then room for the four entries of its vector, of which the first `depots` count. 0 stands elsewhere.
 #[derive(Clone, Copy)]
-pub struct ListAnswer {
-    pub outcome: Result<(), Refusal>,
+pub struct Page {
     pub bearings: usize,
     pub depots: usize,
     pub words: [u32; 64],

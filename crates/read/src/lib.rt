@@ -2,12 +2,11 @@
 // becomes the entrywise maximum with it.
 #![tactic(auto)]
 
-ghost use Rattle.std.specs.Prelude.{◌≡◌, true, [], ◌∷◌, ◌<◌, ◌≤◌, length};
+ghost use Rattle.std.specs.Prelude.{◌≡◌, true, ◌<◌, ◌≤◌, length, Ok};
 ghost use Rattle.order.specs.Record.{most_depots, record_words, vector_of};
 ghost use Rattle.paper.specs.Calls.{reads};
 ghost use Rattle.book.specs.Layout.{counts_of};
 ghost use Rattle.named.specs.Named.{base_fit};
-ghost use Rattle.paper.specs.declared.answer.Finding.{Finding};
 ghost use Rattle.paper.specs.Answers.{paper_read};
 ghost use Rattle.register.specs.Answers.{cut, told};
 ghost use Rattle.register.specs.Promises.{Read};
@@ -18,26 +17,26 @@ use book::parts::counts_of;
 use named_call::read_parts_fit;
 use order::record::{DIAMETER, RECORD_WORDS, VALUE, VECTOR, WIDTH};
 use order::vector::{is_zero, merge};
-use paper::answer::{Finding, Payload, ReadAnswer, Refusal};
+use paper::answer::{Payload, Reading, Refusal};
 use register::check::check_asked;
 use register::home::{cut_vector, home_depot, settle_home, shelf_for};
 
 // What a read tells of a stored record.
-fn tell(version: &[u32], n: usize) -> ReadAnswer
+fn tell(version: &[u32], n: usize) -> Reading
     requires { (length version.now ≡ record_words) × (n ≤ most_depots) }
-    ensures result_value { paper_read result ≡ reads (told n version.now) }
+    ensures result_value { paper_read (Ok result) ≡ reads (told n version.now) }
     ensures vector_value { (result.vector ≡ cut n (vector_of version.now)) × (result.depots ≡ n) }
 {
     let vector = cut_vector(&version[VECTOR..RECORD_WORDS], n);
     if is_zero(&version[VECTOR..RECORD_WORDS], n) {
-        return ReadAnswer {
-            finding: Finding::Unwritten,
+        return Reading {
+            payload: None,
             vector: vector,
             depots: n,
         };
     }
-    ReadAnswer {
-        finding: Finding::Value(Payload {
+    Reading {
+        payload: Some(Payload {
             value: version[VALUE],
             diameter: version[DIAMETER],
             width: version[WIDTH],
@@ -47,18 +46,7 @@ fn tell(version: &[u32], n: usize) -> ReadAnswer
     }
 }
 
-// A refusal carries nothing but its number.
-fn refused(r: Refusal) -> ReadAnswer
-    ensures { result ≡ record { finding = Finding.Refused r; vector = 0 ∷ 0 ∷ 0 ∷ 0 ∷ []; depots = 0 } }
-{
-    ReadAnswer {
-        finding: Finding::Refused(r),
-        vector: [0, 0, 0, 0],
-        depots: 0,
-    }
-}
-
-fn read_at(book: &mut [u32], c: Crew, k: Bearing) -> ReadAnswer
+fn read_at(book: &mut [u32], c: Crew, k: Bearing) -> Result<Reading, Refusal>
     requires { (base_fit book.old ≡ true) × (c.0 < (counts_of book.old).crews) × (k.0 < (counts_of book.old).bearings) }
     ensures { Read book.old c.0 k.0 result book.new }
 {
@@ -67,23 +55,20 @@ fn read_at(book: &mut [u32], c: Crew, k: Bearing) -> ReadAnswer
     let d = home_depot(book, n, c);
     let s = shelf_for(k, n);
     if !read_parts_fit(book, n, c, k, d, s) {
-        return refused(Refusal::BadBook);
+        return Err(Refusal::BadBook);
     }
     settle_home(book, depots, c, d, s);
     let at = stored_at(d, k);
     let end = at + RECORD_WORDS;
-    let answer = tell(&book[at..end], depots);
-    let vector = answer.vector;
-    merge(book, crew_at(c), &vector, depots, depots);
-    answer
+    let reading = tell(&book[at..end], depots);
+    merge(book, crew_at(c), &reading.vector, depots, depots);
+    Ok(reading)
 }
 
 // Refuses, in this order: BAD BOOK, BAD CREW, BAD KEY.
-pub fn read(book: &mut [u32], crew: u32, bearing: u32) -> ReadAnswer
+pub fn read(book: &mut [u32], crew: u32, bearing: u32) -> Result<Reading, Refusal>
     ensures { Read book.old crew bearing result book.new }
 {
-    match check_asked(book, crew, bearing) {
-        Err(r) => refused(r),
-        Ok((c, k)) => read_at(book, c, k),
-    }
+    let (c, k) = check_asked(book, crew, bearing)?;
+    read_at(book, c, k)
 }

@@ -8,9 +8,11 @@ use mathlib.Core.List.{List, []}
 use lib.Dec.{eqb, ltb}
 use lib.ListN.{length}
 use borrow.Author.Tests.{eq-eqb, ne_eqb, lt-ltb, le-ltb}
+use Rattle.std.specs.Prelude.{Result}
 use Rattle.loops.specs.Loops.{pick}
 use Rattle.loops.proofs.BoolLaws.{pick_true, pick_false}
 use Rattle.paper.specs.Calls.{number_in, refused}
+use Rattle.paper.specs.declared.answer.Refusal.{Refusal}
 use Rattle.request.specs.declared.reply.Reply.{Reply}
 use Rattle.request.specs.Replies.{on_paper, Carries}
 use Rattle.book.specs.Words.{put}
@@ -26,7 +28,7 @@ use Rattle.recorder.specs.declared.answer.Recorded.{Recorded}
 use Rattle.recorder.specs.Promises.{record_of, Appended, recorded_reply, Recording}
 
 -- the number that a reply tells
-pub told_number_law : {l l' : List ℕ} {r : Request} {a : Reply} {n : ℕ} → Performed l r a l' → n ≡ number_in (on_paper a) → n ≡ number_at l r
+pub told_number_law : {l l' : List ℕ} {r : Request} {a : Result Reply Refusal} {n : ℕ} → Performed l r a l' → n ≡ number_in (on_paper a) → n ≡ number_at l r
 told_number_law {l} {r = r} p e = e ∙ ap number_in p.answer ∙ reply_number l r
 
 -- ---- by the number
@@ -40,7 +42,7 @@ unfolding record_of
 record_done l r h = pick_true _ _ (eq-eqb _ _ h)
 
 pub appended_none :
-    {l l' : List ℕ} {r : Request} (o : List ℕ) (at : ℕ) {a : Reply} {n : ℕ} → Performed l r a l' → n ≡ number_at l r → (n ≡ 0 → ⊥) →
+    {l l' : List ℕ} {r : Request} (o : List ℕ) (at : ℕ) {a : Result Reply Refusal} {n : ℕ} → Performed l r a l' → n ≡ number_at l r → (n ≡ 0 → ⊥) →
     Appended l r o at (record { number = n; reply = a; size = 0 }) l' o
 appended_none {l} {r = r} o at p e h =
     let none = record_none l r (λ z. h (e ∙ z)) in record {
@@ -51,7 +53,7 @@ appended_none {l} {r = r} o at p e h =
     }
 
 pub appended_done :
-    {l l' : List ℕ} {r : Request} (o : List ℕ) (at : ℕ) {a : Reply} {size : ℕ} {o' : List ℕ} → Performed l r a l' → number_at l r ≡ 0 → size ≡ length (record_bytes r) →
+    {l l' : List ℕ} {r : Request} (o : List ℕ) (at : ℕ) {a : Result Reply Refusal} {size : ℕ} {o' : List ℕ} → Performed l r a l' → number_at l r ≡ 0 → size ≡ length (record_bytes r) →
     o' ≡ put o at (record_bytes r) → Appended l r o at (record { number = 0; reply = a; size = size }) l' o'
 appended_done {l} {r = r} o at p z s w =
     let done = record_done l r z in record {
@@ -102,7 +104,7 @@ recording_room {l} {r = r} {o = o} h p =
     }
 
 pub recording_none :
-    (l : List ℕ) (r : Request) (o : List ℕ) {a : Reply} → length o < length (record_bytes r) → on_paper a ≡ refused 1 → Carries (on_paper a) a →
+    (l : List ℕ) (r : Request) (o : List ℕ) {a : Result Reply Refusal} → length o < length (record_bytes r) → on_paper a ≡ refused 1 → Carries (on_paper a) a →
     Recording l r o (record { number = 100; reply = a; size = 0 }) l o
 unfolding recorded_number recorded_book recorded_in recorded_size recorded_reply
 recording_none l r o h e k =

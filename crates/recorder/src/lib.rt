@@ -9,7 +9,6 @@ ghost use Rattle.recorder.specs.Promises.{record_of, Appended, Recording};
 
 use crate::answer::Recorded;
 use calls::perform::perform;
-use calls::reply::answered;
 use paper::answer::Refusal;
 use record_writer::{size_of, write_record};
 use request::ask::Request;
@@ -51,10 +50,9 @@ pub fn recorded(book: &mut [u32], request: Request, beside: &[u32], out: &mut [u
 {
     let size = size_of(request, beside);
     if out.len() < size {
-        let none = answered(Err(Refusal::BadBook));
         return Recorded {
             number: NO_ROOM,
-            reply: none,
+            reply: Err(Refusal::BadBook),
             size: 0,
         };
     }

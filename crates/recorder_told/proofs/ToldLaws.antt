@@ -10,16 +10,16 @@ use mathlib.Core.Option.{none, some}
 use Rattle.std.specs.Prelude.{Option, Some, None}
 use mathlib.Core.List.{List, [], ◌∷◌}
 use lib.Dec.{eqb, leb, ltb}
-use lib.ListN.{length, take, replicate}
+use lib.ListN.{length, replicate}
 use lib.Seq.{sets, length-sets}
 use borrow.Author.Tests.{eq-eqb, ne_eqb, eqb-true, leb-true}
 use Rattle.loops.specs.Loops.{pick}
 use Rattle.loops.proofs.BoolLaws.{decided, pick_true, pick_false}
 use Rattle.paper.specs.Calls.{Answer}
-use Rattle.paper.specs.Answers.{told_all, entries_in, padded, tellings, page_words}
-use Rattle.request.specs.declared.reply.Outcome.{Outcome}
+use Rattle.std.specs.Prelude.{Result}
+use Rattle.paper.specs.declared.answer.Refusal.{Refusal}
 use Rattle.request.specs.declared.reply.Reply.{Reply}
-use Rattle.request.specs.Replies.{paper_outcome, on_paper, Carries}
+use Rattle.request.specs.Replies.{on_paper}
 use Rattle.book.specs.Words.{put}
 use Rattle.upkeep.specs.Requests.{Request, number_at, reply_to}
 use Rattle.journal.specs.declared.record.Kind.{Kind}
@@ -92,32 +92,13 @@ module _ (kind : ℕ) (ns l b o : List ℕ) {named : Option Kind} (e : named ≡
 
 -- ---- the words of an answer
 
-module _ (r : Reply) where
-  -- the entries and the list of a reply
-  abbrev on_paper_law : Outcome → Answer
-  on_paper_law o = paper_outcome o (take r.depots r.vector) (told_all r.depots r.bearings r.words)
+-- a reply, known by its case, whose words are these
+pub words_as : {r s : Result Reply Refusal} {w x : List ℕ} → r ≡ s → x ≡ filled w (replicate 64 0) → w ≡ words_of (on_paper s) → x ≡ answer_words (on_paper r)
+unfolding answer_words
+words_as e p q = p ∙ ap (λ (w : List ℕ). filled w (replicate 64 0)) q ∙ sym (ap (λ (y : Result Reply Refusal). answer_words (on_paper y)) e)
 
-  -- a reply, known by its outcome, whose words are these
-  pub words_as : {o : Outcome} {w x : List ℕ} → r.outcome ≡ o → x ≡ filled w (replicate 64 0) → w ≡ words_of (on_paper_law o) → x ≡ answer_words (on_paper r)
-  unfolding on_paper answer_words
-  words_as e p q = p ∙ ap (λ (w : List ℕ). filled w (replicate 64 0)) q ∙ sym (ap (λ (o : Outcome). answer_words (on_paper_law o)) e)
-
-  pub no_words : {o : Outcome} → r.outcome ≡ o → [] ≡ words_of (on_paper_law o) → replicate 64 0 ≡ answer_words (on_paper r)
-  no_words e q = words_as e (filled_none _) q
-
-  module _ {o : Outcome} (e : r.outcome ≡ o) (h : Carries (on_paper r) r) where
-    paper_as : on_paper r ≡ on_paper_law o
-    unfolding on_paper
-    paper_as = ap on_paper_law e
-
-    -- a vector's entries
-    pub vector_words : padded r.vector ≡ padded (entries_in (on_paper_law o))
-    unfolding padded
-    vector_words = ap padded (h.vector ∙ ap (λ (a : Answer). padded (entries_in a)) paper_as)
-
-    -- a list's page
-    pub page_words_law : r.words ≡ page_words 8 (tellings (on_paper_law o))
-    page_words_law = h.words ∙ ap (λ (a : Answer). page_words 8 (tellings a)) paper_as
+pub no_words : {r s : Result Reply Refusal} → r ≡ s → [] ≡ words_of (on_paper s) → replicate 64 0 ≡ answer_words (on_paper r)
+no_words e q = words_as e (filled_none _) q
 
 filled_length : (w o : List ℕ) → length (filled w o) ≡ length o
 unfolding filled

@@ -11,11 +11,13 @@ ghost use Rattle.recorder_told.specs.Told.{fits, answer_words, recorded_words, l
 
 use book::words::write_words;
 use journal::record::Kind;
+use paper::answer::Refusal;
 use recorder::recorded;
 use records::asking::{beside_by, request_by};
 use records::kinds::{kind_of, shape_of};
-use request::reply::{Outcome, Reply};
+use request::reply::Reply;
 use room::{NO_ROOM, fill};
+use telling::{reading_words, written_words};
 
 // The words of an answer, and with the record's length before them.
 const ANSWER_WORDS: usize = 64;
@@ -38,45 +40,34 @@ fn has_numbers(kind: Kind, count: usize) -> bool
 }
 
 // The answer of a reply in words, 0 behind what it tells.
-fn answer_words(reply: Reply) -> [u32; ANSWER_WORDS]
+fn answer_words(reply: Result<Reply, Refusal>) -> [u32; ANSWER_WORDS]
     requires { Carries (on_paper reply) reply }
     ensures { result ≡ answer_words (on_paper reply) }
 {
-    let outcome = reply.outcome;
-    let v = reply.vector;
-    let page = reply.words;
     let mut words = [0u32; ANSWER_WORDS];
-    match outcome {
-        Outcome::Done => words,
-        Outcome::Value(p) => {
-            fill(
-                &mut words,
-                &[1, p.value, p.diameter, p.width, v[0], v[1], v[2], v[3]],
-            );
+    let Ok(told) = reply else {
+        return words;
+    };
+    match told {
+        Reply::Done => words,
+        Reply::Read(reading) => {
+            fill(&mut words, &reading_words(reading));
             words
         }
-        Outcome::Unwritten => {
-            fill(&mut words, &[0, 0, 0, 0, v[0], v[1], v[2], v[3]]);
+        Reply::Written(written) => {
+            fill(&mut words, &written_words(written));
             words
         }
-        Outcome::Current(stamp) => {
-            fill(&mut words, &[stamp, 1]);
+        Reply::Listed(page) => {
+            let listed = page.words;
+            fill(&mut words, &listed);
             words
         }
-        Outcome::Superseded(stamp) => {
-            fill(&mut words, &[stamp, 0]);
-            words
-        }
-        Outcome::Listed => {
-            fill(&mut words, &page);
-            words
-        }
-        Outcome::Refused(_) => words,
     }
 }
 
 // How many bytes a record has and the answer stand at the start of `out`.
-fn tell(out: &mut [u32], size: usize, reply: Reply)
+fn tell(out: &mut [u32], size: usize, reply: Result<Reply, Refusal>)
     requires { (recorded_words ≤ length out.old) × (size ≤ 82) × Carries (on_paper reply) reply }
     ensures { out.new ≡ put out.old 0 (size ∷ answer_words (on_paper reply)) }
 {

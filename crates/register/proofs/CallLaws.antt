@@ -2,7 +2,7 @@
 -- Assumes nothing.
 use Prim.Native.Nat.{ℕ}
 use mathlib.Core.Path.{◌≡◌, refl, sym, ◌∙◌, ap, subst}
-use mathlib.Core.List.{List, [], ◌∷◌}
+use mathlib.Core.List.{List}
 use mathlib.Core.Bool.{false}
 use lib.Dec.{eqb}
 use borrow.Author.Tests.{eq-eqb}
@@ -12,9 +12,7 @@ use Rattle.paper.specs.Calls.{Answer, refused, answer_by}
 use Rattle.paper.specs.declared.answer.Refusal.{Refusal}
 use Rattle.paper.specs.declared.answer.Refusal.TheVariants.{BadBook, BadDepot, BadShelf, BadKey, BadCrew, SameDepot, EmptyLink, Wait, LinkFull, ClockAtEnd, BadCounts, NotHereYet, BadDate, BadCard, BadList}
 use Rattle.book.specs.Numbers.{Depot, Shelf, Bearing, Crew}
-use Rattle.paper.specs.declared.answer.Finding.{Finding}
-use Rattle.paper.specs.declared.answer.ReadAnswer.{ReadAnswer}
-use Rattle.paper.specs.Answers.{number_of, paper_found, paper_read, entries_in, padded, Holds}
+use Rattle.paper.specs.Answers.{number_of}
 use Rattle.register.specs.Checks.{PlaceChecked, AskChecked, LinkChecked}
 use Rattle.register.specs.Promises.{after}
 
@@ -58,14 +56,6 @@ after_refused r changed l e = sym (pick_false _ _ (not_done r e))
 pub after_done : {n : ℕ} (changed l : List ℕ) → n ≡ 0 → changed ≡ after n changed l
 unfolding after
 after_done {n} changed l e = sym (pick_true _ _ (eq-eqb n 0 e))
-
--- a read that is refused tells no entry
-pub read_refused :
-    {n : ℕ} (r : Refusal) {a : ReadAnswer} (b : Answer) → a ≡ record { finding = Finding.Refused r; vector = 0 ∷ 0 ∷ 0 ∷ 0 ∷ []; depots = 0 } → n ≡ number_of r →
-    (paper_read a ≡ answer_by n b) × Holds (paper_read a) a.vector a.depots
-unfolding paper_read paper_found entries_in padded
-read_refused {n} r b q e =
-    subst (λ (x : ReadAnswer). (paper_read x ≡ answer_by n b) × Holds (paper_read x) x.vector x.depots) (sym q) (by_refusal r b e, record { vector = refl; count = refl })
 
 -- ---- what the shared checks tell
 

@@ -17,6 +17,8 @@ use Rattle.upkeep.proofs.NeverBadAnswer.{reply_number}
 use Rattle.paper.specs.Calls.{number_in}
 use Rattle.numbers.specs.Numbers.{words_at}
 use Rattle.numbers.proofs.NumberLaws.{length_words}
+use Rattle.std.specs.Prelude.{Result}
+use Rattle.paper.specs.declared.answer.Refusal.{Refusal}
 use Rattle.request.specs.declared.reply.Reply.{Reply}
 use Rattle.request.specs.Replies.{on_paper}
 use Rattle.journal.specs.declared.record.Kind.{Kind}
@@ -141,5 +143,5 @@ module _ (f : List ℕ) (k : Kind) {head n : ℕ} (h : head ≡ head_size k) (e 
 
 -- and a call that is made for it has its number and leaves its book
 pub replays :
-    {l l' : List ℕ} {q q' : Request} {a : Reply} {n : ℕ} → Performed l q a l' → q ≡ q' → n ≡ number_in (on_paper a) → (n ≡ number_at l q') × (l' ≡ book_after l q')
+    {l l' : List ℕ} {q q' : Request} {a : Result Reply Refusal} {n : ℕ} → Performed l q a l' → q ≡ q' → n ≡ number_in (on_paper a) → (n ≡ number_at l q') × (l' ≡ book_after l q')
 replays {l} {q = q} p e h = (h ∙ ap number_in p.answer ∙ reply_number l q ∙ ap (number_at l) e, p.book ∙ ap (book_after l) e)

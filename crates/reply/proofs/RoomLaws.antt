@@ -1,4 +1,4 @@
--- No answer is longer than its room, with at most four entries and eight bearings; so each has its room where that many bytes are free. And a reply, known by its outcome.
+-- No answer is longer than its room, with at most four entries and eight bearings; so each has its room where that many bytes are free. And a reply, known by its case.
 -- Assumes nothing.
 use Prim.Native.Nat.{ℕ, zero, suc, ◌+◌, ◌*◌, ◌≤◌, ◌<◌}
 use native.Mathlib.Omega.{arith}
@@ -6,10 +6,14 @@ use mathlib.Core.Path.{◌≡◌, refl, sym, ap}
 use mathlib.Core.List.{List, [], ◌∷◌}
 use mathlib.Core.Bool.{true, false}
 use lib.ListN.{length, take, length-take, length-append, replicate}
+use Rattle.std.specs.Prelude.{Option, Some, None, Result, Ok}
+use Rattle.paper.specs.declared.answer.Payload.{Payload}
+use Rattle.paper.specs.declared.answer.Refusal.{Refusal}
+use Rattle.paper.specs.declared.answer.Reading.{Reading}
+use Rattle.paper.specs.declared.answer.Page.{Page}
 use Rattle.paper.specs.Calls.{Told, Answer, refused, done, reads, read_value, read_unwritten, current, superseded, listed}
-use Rattle.paper.specs.Answers.{told_all, entries_in, padded, entries_told, tellings, depots_told, told_words, page_words}
-use Rattle.request.specs.Replies.{paper_outcome, on_paper, Carries}
-use Rattle.request.specs.declared.reply.Outcome.{Outcome}
+use Rattle.paper.specs.Answers.{paper_found, paper_read, paper_list, told_all, entries_in, padded, Holds, entries_told, tellings, told_words, page_words, HoldsAll}
+use Rattle.request.specs.Replies.{on_paper}
 use Rattle.request.specs.declared.reply.Reply.{Reply}
 use Rattle.line.specs.Printing.{Room, Wrote}
 use Rattle.line.proofs.PrintLaws.{wrote_same, decimal_length, stamp_answer_length}
@@ -39,19 +43,7 @@ printed_length (listed ts) h = let l = page_length ts h.each in let k = h.bearin
 pub printed_room : {o : List ℕ} {at : ℕ} (a : Answer) → Short a → at + answer_room ≤ length o → Room o at (printed a)
 printed_room a h k = let l = printed_length a h in record { room = omega arith }
 
--- ---- a reply whose room holds what it tells
-
-few_sum :
-    (o : Outcome) (u : List ℕ) (ts : List Told) → length u ≤ 4 → depots_told ts ≤ 4 →
-    length (entries_in (paper_outcome o u ts)) + depots_told (tellings (paper_outcome o u ts)) ≤ 4
-unfolding paper_outcome entries_in tellings depots_told
-few_sum Outcome.Done u ts h k = omega arith
-few_sum (Outcome.Value v) u ts h k = omega arith
-few_sum Outcome.Unwritten u ts h k = omega arith
-few_sum (Outcome.Current stamp) u ts h k = omega arith
-few_sum (Outcome.Superseded stamp) u ts h k = omega arith
-few_sum Outcome.Listed u ts h k = omega arith
-few_sum (Outcome.Refused r) u ts h k = omega arith
+-- ---- what a read or a list tells, whose room holds it
 
 told_words_length : (t : Told) → length (told_words t) ≡ 8
 unfolding told_words padded
@@ -71,31 +63,44 @@ page_words_length (suc m) (t ∷ ts) =
     let h = page_words_length m ts in
     omega arith
 
--- has four words for a vector, of which at most four count, and 64 for a list
-pub record Few (r : Reply) : Type 0 where
-  pub vector : length r.vector ≡ 4
-  pub counted : r.depots ≤ 4
-  pub entries : length (take r.depots r.vector) ≤ 4
-  pub words : length r.words ≡ 64
+entries_found : (f : Option Payload) (u : List ℕ) → entries_in (paper_found f u) ≡ u
+unfolding paper_found entries_in
+entries_found (Some p) u = refl
+entries_found None u = refl
 
-pub carries_few : (r : Reply) → Carries (on_paper r) r → Few r
-unfolding on_paper padded
-carries_few r h =
-    let four : length r.vector ≡ 4 = ap (λ (u : List ℕ). length u) h.vector in
-    let part = length-take r.depots r.vector in
-    let short : length (take r.depots r.vector) ≤ 4 = omega arith in
-    let sum = few_sum r.outcome (take r.depots r.vector) _ short (few_depots r.depots r.bearings r.words) in
-    let count = h.depots in
+-- a read has four words for a vector, of which at most four count
+pub record Few (a : Reading) : Type 0 where
+  pub vector : length a.vector ≡ 4
+  pub counted : a.depots ≤ 4
+  pub entries : length (take a.depots a.vector) ≤ 4
+
+pub holds_few : (a : Reading) → Holds (paper_read (Ok a)) a.vector a.depots → Few a
+unfolding paper_read padded
+holds_few a h =
+    let four : length a.vector ≡ 4 = ap (λ (u : List ℕ). length u) h.vector in
+    let part = length-take a.depots a.vector in
+    let short : length (take a.depots a.vector) ≤ 4 = omega arith in
+    let same = ap (λ (u : List ℕ). length u) (entries_found a.payload (take a.depots a.vector)) in
+    let count = h.count in
+    record { vector = four; counted = omega arith; entries = short }
+
+-- a list has 64 words, at most four entries of a bearing, and no more bearings than it tells of
+pub record FewListed (a : Page) : Type 0 where
+  pub words : length a.words ≡ 64
+  pub counted : a.depots ≤ 4
+  pub bearings : a.bearings ≤ 8
+
+pub holds_few_listed : (a : Page) → HoldsAll (paper_list (Ok a)) a → length (tellings (paper_list (Ok a))) ≤ 8 → FewListed a
+unfolding paper_list tellings
+holds_few_listed a h k =
     let page = ap (λ (w : List ℕ). length w) h.words in
-    let size = page_words_length 8 (tellings (on_paper r)) in
-    record { vector = four; counted = omega arith; entries = short; words = omega arith }
+    let size = page_words_length 8 (told_all a.depots a.bearings a.words) in
+    let few = few_depots a.depots a.bearings a.words in
+    let count = h.depots in
+    let most = h.bearings in
+    record { words = omega arith; counted = omega arith; bearings = omega arith }
 
+-- a reply, known by its case
 pub said_as :
-    (r : Reply) {p : Outcome} {o o' : List ℕ} {at next : ℕ} → r.outcome ≡ p →
-    Wrote o at (printed (paper_outcome p (take r.depots r.vector) (told_all r.depots r.bearings r.words))) o' next → Wrote o at (printed (on_paper r)) o' next
-unfolding on_paper
-said_as r e w = wrote_same (sym (ap (λ (x : Outcome). printed (paper_outcome x (take r.depots r.vector) (told_all r.depots r.bearings r.words))) e)) w
-
--- and no more bearings than it tells of
-pub list_count : (r : Reply) → Carries (on_paper r) r → length (tellings (on_paper r)) ≤ 8 → r.bearings ≤ 8
-list_count r h k = let c = h.bearings in omega arith
+    {r s : Result Reply Refusal} {o o' : List ℕ} {at next : ℕ} → r ≡ s → Wrote o at (printed (on_paper s)) o' next → Wrote o at (printed (on_paper r)) o' next
+said_as e w = wrote_same (sym (ap (λ (x : Result Reply Refusal). printed (on_paper x)) e)) w

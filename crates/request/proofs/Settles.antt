@@ -1,41 +1,41 @@
--- What stands on paper, and what its room holds, settle the reply: its outcome is got back from it, by a table that serves this proof alone.
+-- What stands on paper, and what its room holds, settle the reply: it is got back from it, by a table that serves this proof alone.
 -- Assumes nothing.
-use Prim.Native.Nat.{ℕ, ◌+◌}
+use Prim.Native.Nat.{ℕ}
 use mathlib.Core.Path.{◌≡◌, refl, sym, ◌∙◌, ap}
 use mathlib.Core.List.{List}
-use lib.ListN.{length}
-use Rattle.paper.specs.Calls.{Told, read_value, read_unwritten, Answer, refused, done, reads, current, superseded, listed}
-use Rattle.paper.specs.Answers.{entries_in, padded, tellings, depots_told, page_words}
-use Rattle.paper.proofs.Settles.{refusal_at, refusal_back}
-use Rattle.request.specs.declared.reply.Outcome.{Outcome}
+use Rattle.std.specs.Prelude.{Option, Some, None, Result, Ok, Err}
+use Rattle.paper.specs.Calls.{Answer, refused, done, reads, current, superseded, listed}
+use Rattle.paper.specs.declared.answer.Payload.{Payload}
+use Rattle.paper.specs.declared.answer.Refusal.{Refusal}
+use Rattle.paper.specs.declared.answer.Reading.{Reading}
+use Rattle.paper.specs.declared.answer.Written.{Written}
+use Rattle.paper.specs.declared.answer.Page.{Page}
+use Rattle.paper.specs.Answers.{paper_found, paper_read, paper_write, paper_list}
+use Rattle.paper.proofs.Settles.{refusal_at, refusal_back, reading_of, reading_at, reading_back, page_of, page_back}
 use Rattle.request.specs.declared.reply.Reply.{Reply}
-use Rattle.request.specs.Replies.{paper_outcome, on_paper, Carries}
+use Rattle.request.specs.Replies.{paper_reply, on_paper, Carries}
 
-outcome_at : Answer → Outcome
-outcome_at (refused n) = Outcome.Refused (refusal_at n)
-outcome_at done = Outcome.Done
-outcome_at (reads (read_value v u)) = Outcome.Value v
-outcome_at (reads (read_unwritten u)) = Outcome.Unwritten
-outcome_at (current stamp) = Outcome.Current stamp
-outcome_at (superseded stamp) = Outcome.Superseded stamp
-outcome_at (listed told) = Outcome.Listed
+reply_at : Answer → Result Reply Refusal
+reply_at (refused n) = Err (refusal_at n)
+reply_at done = Ok Reply.Done
+reply_at (reads t) = Ok (Reply.Read (reading_at t))
+reply_at (current stamp) = Ok (Reply.Written (Written.Current stamp))
+reply_at (superseded stamp) = Ok (Reply.Written (Written.Superseded stamp))
+reply_at (listed told) = Ok (Reply.Listed (page_of told))
 
-outcome_back : (o : Outcome) (u : List ℕ) (told : List Told) → outcome_at (paper_outcome o u told) ≡ o
-unfolding paper_outcome outcome_at
-outcome_back Outcome.Done u told = refl
-outcome_back (Outcome.Value v) u told = refl
-outcome_back Outcome.Unwritten u told = refl
-outcome_back (Outcome.Current stamp) u told = refl
-outcome_back (Outcome.Superseded stamp) u told = refl
-outcome_back Outcome.Listed u told = refl
-outcome_back (Outcome.Refused r) u told = ap Outcome.Refused (refusal_back r)
+found_back : (f : Option Payload) (u : List ℕ) → reply_at (paper_found f u) ≡ Ok (Reply.Read (reading_of f u))
+unfolding paper_found reply_at reading_at
+found_back (Some p) u = refl
+found_back None u = refl
 
-pub reply_settles : (a b : Reply) → on_paper a ≡ on_paper b → Carries (on_paper a) a → Carries (on_paper b) b → a ≡ b
-unfolding on_paper
-reply_settles a b e h k =
-    let o = sym (outcome_back a.outcome _ _) ∙ ap outcome_at e ∙ outcome_back b.outcome _ _ in
-    let v = h.vector ∙ ap (λ (x : Answer). padded (entries_in x)) e ∙ sym k.vector in
-    let w = h.words ∙ ap (λ (x : Answer). page_words 8 (tellings x)) e ∙ sym k.words in
-    let m = h.bearings ∙ ap (λ (x : Answer). length (tellings x)) e ∙ sym k.bearings in
-    let n = h.depots ∙ ap (λ (x : Answer). length (entries_in x) + depots_told (tellings x)) e ∙ sym k.depots in
-    λ i. record { outcome = o i; vector = v i; depots = n i; bearings = m i; words = w i }
+reply_back : (x : Result Reply Refusal) → Carries (on_paper x) x → reply_at (on_paper x) ≡ x
+unfolding on_paper paper_reply Carries paper_read paper_write paper_list reply_at
+reply_back (Ok Reply.Done) h = refl
+reply_back (Ok (Reply.Read a)) h = found_back a.payload _ ∙ ap (λ (y : Reading). Ok (Reply.Read y)) (reading_back a h)
+reply_back (Ok (Reply.Written (Written.Current stamp))) h = refl
+reply_back (Ok (Reply.Written (Written.Superseded stamp))) h = refl
+reply_back (Ok (Reply.Listed a)) h = ap (λ (y : Page). Ok (Reply.Listed y)) (page_back a h)
+reply_back (Err r) h = ap Err (refusal_back r)
+
+pub reply_settles : (a b : Result Reply Refusal) → on_paper a ≡ on_paper b → Carries (on_paper a) a → Carries (on_paper b) b → a ≡ b
+reply_settles a b e h k = sym (reply_back a h) ∙ ap reply_at e ∙ reply_back b k

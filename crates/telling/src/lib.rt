@@ -2,7 +2,7 @@
 // all, before the book is looked at.
 #![tactic(auto)]
 
-ghost use Rattle.std.specs.Prelude.{◌≡◌, ◌/◌, ◌%◌, Ok};
+ghost use Rattle.std.specs.Prelude.{◌≡◌, ◌/◌, ◌%◌, Ok, IfOk};
 ghost use Rattle.paper.specs.Calls.{read, write, number_in};
 ghost use Rattle.paper.specs.Answers.{paper_read, paper_write, Holds};
 ghost use Rattle.upkeep.specs.Requests.{call, number_at, reply_to, book_after};
@@ -11,7 +11,7 @@ ghost use Rattle.room.specs.Room.{no_room, in_room, filled};
 ghost use Rattle.telling.specs.Told.{read_words, write_words, grams_words, words_of, grams_out};
 
 use card::grams;
-use paper::answer::{Finding, Payload, ReadAnswer, Refusal, Written};
+use paper::answer::{Payload, Reading, Refusal, Written};
 use paper::number::number_of;
 use read::read;
 use room::{NO_ROOM, fill};
@@ -26,7 +26,19 @@ const GRAMS_WORDS: usize = 2;
 
 const BAD_CARD: u32 = 14;
 
-// The words of what a write tells.
+// The words of what a read tells.
+pub fn reading_words(reading: Reading) -> [u32; READ_WORDS]
+    requires { Holds (paper_read (Ok reading)) reading.vector reading.depots }
+    ensures { result ≡ words_of (paper_read (Ok reading)) }
+{
+    let v = reading.vector;
+    match reading.payload {
+        Some(p) => [1, p.value, p.diameter, p.width, v[0], v[1], v[2], v[3]],
+        None => [0, 0, 0, 0, v[0], v[1], v[2], v[3]],
+    }
+}
+
+// The same of a write.
 pub fn written_words(written: Written) -> [u32; WRITE_WORDS]
     ensures { result ≡ words_of (paper_write (Ok written)) }
 {
@@ -37,26 +49,17 @@ pub fn written_words(written: Written) -> [u32; WRITE_WORDS]
 }
 
 // What the answer of a read tells stands in `out`, and its number comes back.
-fn tell_found(out: &mut [u32], answer: ReadAnswer) -> u32
-    requires { Holds (paper_read answer) answer.vector answer.depots }
+fn tell_found(out: &mut [u32], answer: Result<Reading, Refusal>) -> u32
+    requires { IfOk answer (λ a. Holds (paper_read answer) a.vector a.depots) }
     ensures value { result ≡ number_in (paper_read answer) }
     ensures out_after { out.new ≡ filled (words_of (paper_read answer)) out.old }
 {
-    let finding = answer.finding;
-    let v = answer.vector;
-    match finding {
-        Finding::Value(p) => {
-            fill(
-                out,
-                &[1, p.value, p.diameter, p.width, v[0], v[1], v[2], v[3]],
-            );
+    match answer {
+        Ok(reading) => {
+            fill(out, &reading_words(reading));
             0
         }
-        Finding::Unwritten => {
-            fill(out, &[0, 0, 0, 0, v[0], v[1], v[2], v[3]]);
-            0
-        }
-        Finding::Refused(r) => number_of(r),
+        Err(r) => number_of(r),
     }
 }
 

@@ -7,16 +7,16 @@ use Rattle.std.proofs.Common.{Result}
 use Rattle.book.specs.declared.parts.Counts.{Counts}
 use Rattle.paper.specs.declared.answer.Payload.{Payload}
 use Rattle.paper.specs.declared.answer.Refusal.{Refusal}
-use Rattle.paper.specs.declared.answer.ReadAnswer.{ReadAnswer}
+use Rattle.paper.specs.declared.answer.Reading.{Reading}
 use Rattle.paper.specs.declared.answer.Written.{Written}
-use Rattle.paper.specs.declared.answer.ListAnswer.{ListAnswer}
+use Rattle.paper.specs.declared.answer.Page.{Page}
 use Rattle.paper.proofs.Settles.{plain_settles, read_settles, written_settles, list_settles}
 use Rattle.register.specs.Promises.{Setup, Read, Write, Tick, Take, Refresh, Move, Listing}
 
 pub setup_unique : (l : List ℕ) (n : Counts) (homes : List ℕ) {r r' : Result Unit Refusal} {m m' : List ℕ} → Setup l n homes r m → Setup l n homes r' m' → (r ≡ r') × (m ≡ m')
 setup_unique l n homes p q = (plain_settles _ _ (p.answer ∙ sym q.answer), p.book ∙ sym q.book)
 
-pub read_unique : (l : List ℕ) (c k : ℕ) {r r' : ReadAnswer} {m m' : List ℕ} → Read l c k r m → Read l c k r' m' → (r ≡ r') × (m ≡ m')
+pub read_unique : (l : List ℕ) (c k : ℕ) {r r' : Result Reading Refusal} {m m' : List ℕ} → Read l c k r m → Read l c k r' m' → (r ≡ r') × (m ≡ m')
 read_unique l c k p q = (read_settles _ _ (p.answer ∙ sym q.answer) p.holds q.holds, p.book ∙ sym q.book)
 
 pub write_unique : (l : List ℕ) (c k : ℕ) (payload : Payload) {r r' : Result Written Refusal} {m m' : List ℕ} → Write l c k payload r m → Write l c k payload r' m' → (r ≡ r') × (m ≡ m')
@@ -34,5 +34,5 @@ refresh_unique l d s p q = (plain_settles _ _ (p.answer ∙ sym q.answer), p.boo
 pub move_unique : (l : List ℕ) (c d : ℕ) {r r' : Result Unit Refusal} {m m' : List ℕ} → Move l c d r m → Move l c d r' m' → (r ≡ r') × (m ≡ m')
 move_unique l c d p q = (plain_settles _ _ (p.answer ∙ sym q.answer), p.book ∙ sym q.book)
 
-pub list_unique : (l : List ℕ) (c : ℕ) (ks : List ℕ) {r r' : ListAnswer} {m m' : List ℕ} → Listing l c ks r m → Listing l c ks r' m' → (r ≡ r') × (m ≡ m')
+pub list_unique : (l : List ℕ) (c : ℕ) (ks : List ℕ) {r r' : Result Page Refusal} {m m' : List ℕ} → Listing l c ks r m → Listing l c ks r' m' → (r ≡ r') × (m ≡ m')
 list_unique l c ks p q = (list_settles _ _ (p.answer ∙ sym q.answer) p.holds q.holds, p.book ∙ sym q.book)

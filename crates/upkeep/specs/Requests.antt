@@ -6,9 +6,9 @@ use Rattle.paper.specs.declared.answer.Payload.{Payload}
 use Rattle.paper.specs.Calls.{Call, read, write, tick, take, refresh, move, list, Answer, done, reads, listed, answer_by}
 use Rattle.paper.specs.Answers.{paper, paper_read, paper_write, paper_list}
 use Rattle.paper.specs.declared.answer.Refusal.{Refusal}
-use Rattle.paper.specs.declared.answer.ReadAnswer.{ReadAnswer}
+use Rattle.paper.specs.declared.answer.Reading.{Reading}
 use Rattle.paper.specs.declared.answer.Written.{Written}
-use Rattle.paper.specs.declared.answer.ListAnswer.{ListAnswer}
+use Rattle.paper.specs.declared.answer.Page.{Page}
 use Rattle.book.specs.declared.parts.Counts.{Counts}
 use Rattle.book.specs.Layout.{counts_of}
 use Rattle.register.specs.Answers.{told, written}
@@ -65,13 +65,13 @@ book_after l r = after (number_at l r) (changed_by l r) l
 -- its promise: that it is answered so on paper and leaves the book l'
 pub data Called (l l' : List ℕ) : Request → Answer → Type 0 where
   setting_up : {n : Counts} {homes : List ℕ} {r : Result Unit Refusal} → Setup l n homes r l' → Called l l' (setup n homes) (paper r)
-  did_read : {c k : ℕ} {r : ReadAnswer} → Read l c k r l' → Called l l' (call (read c k)) (paper_read r)
+  did_read : {c k : ℕ} {r : Result Reading Refusal} → Read l c k r l' → Called l l' (call (read c k)) (paper_read r)
   did_write : {c k : ℕ} {payload : Payload} {r : Result Written Refusal} → Write l c k payload r l' → Called l l' (call (write c k payload)) (paper_write r)
   ticked : {d s : ℕ} {r : Result Unit Refusal} → Tick l d s r l' → Called l l' (call (tick d s)) (paper r)
   took : {d s from : ℕ} {r : Result Unit Refusal} → Take l d s from r l' → Called l l' (call (take d s from)) (paper r)
   refreshed : {d s : ℕ} {r : Result Unit Refusal} → Refresh l d s r l' → Called l l' (call (refresh d s)) (paper r)
   moved : {c d : ℕ} {r : Result Unit Refusal} → Move l c d r l' → Called l l' (call (move c d)) (paper r)
-  did_list : {c : ℕ} {ks : List ℕ} {r : ListAnswer} → Listing l c ks r l' → Called l l' (call (list c ks)) (paper_list r)
+  did_list : {c : ℕ} {ks : List ℕ} {r : Result Page Refusal} → Listing l c ks r l' → Called l l' (call (list c ks)) (paper_list r)
 
 -- requests, one after another, each as its promise has it, lead from a book to another
 pub data Lead : List ℕ → List ℕ → Type 0 where

@@ -14,10 +14,10 @@ use Rattle.named.specs.Named.{all_below, list_parts}
 use Rattle.named.proofs.NamedLaws.{Based, base_open}
 use Rattle.paper.specs.Calls.{Told, listed}
 use Rattle.paper.specs.declared.answer.Refusal.TheVariants.{BadBook}
-use Rattle.paper.specs.Answers.{number_of}
-use Rattle.register.proofs.CallLaws.{by_done, after_refused, after_done}
+use Rattle.paper.specs.Answers.{number_of, paper_list}
+use Rattle.register.proofs.CallLaws.{by_refusal, by_done, after_refused, after_done}
 use Rattle.register.proofs.ListTable.{list_book_law, list_good, list_size_in}
-use Rattle.page.proofs.PageLaws.{list_refused, list_told, parts_listed, shelves_ready, page_book_law, page_told_law, page_merged}
+use Rattle.page.proofs.PageLaws.{list_told, parts_listed, shelves_ready, page_book_law, page_told_law, page_merged}
 use Rattle.page.proofs.list_at.Goals as goal
 use Rattle.page.proofs.list_at.Lts as lts
 use Rattle.page.proofs.list_at.Tie as tie
@@ -87,11 +87,10 @@ list_parts_fit-requires c =
     (w.full, subst Within (sym c.counts_of-n.ensures) w.within, h.4, h.3, h.5)
 
 pub returns-then-not-list_parts_fit : goal.returns-then-not-list_parts_fit
-unfolding number_of
+unfolding number_of paper_list
 returns-then-not-list_parts_fit c =
-    let e = list_book_law _ _ _ c.requires.0 c.requires.1 c.requires.2 c.requires.3 (test_failed (parts_said c.before.before.before) c.if-not-list_parts_fit.true-raw) in
-    let told = list_refused BadBook _ c.refused.ensures e in
-    record { answer = told.0; holds = told.1; book = after_refused BadBook _ _ e }
+    let e = list_book_law _ _ _ c.requires.0 c.requires.1 c.requires.2 c.requires.3 (test_failed (parts_said c.before.before) c.if-not-list_parts_fit.true-raw) in
+    record { answer = by_refusal BadBook _ e; holds = tt; book = after_refused BadBook _ _ e }
 
 pub crew_vector-offered-requires : goal.crew_vector-offered-requires
 crew_vector-offered-requires c = ((base c.before.before.before.before.before.before.before).full, (small c.before.before.before).4)

@@ -17,9 +17,9 @@ use Rattle.named.specs.Named.{read_parts}
 use Rattle.named.proofs.NamedLaws.{Based, base_open}
 use Rattle.paper.specs.Calls.{reads}
 use Rattle.paper.specs.declared.answer.Refusal.TheVariants.{BadBook}
-use Rattle.paper.specs.Answers.{number_of}
+use Rattle.paper.specs.Answers.{number_of, paper_read}
 use Rattle.register.specs.Answers.{cut, told}
-use Rattle.register.proofs.CallLaws.{by_done, after_refused, after_done, read_refused}
+use Rattle.register.proofs.CallLaws.{by_refusal, by_done, after_refused, after_done}
 use Rattle.register.proofs.FitReady.{shelf_in}
 use Rattle.register.proofs.SendTable.{read_book_law, read_good}
 use Rattle.register.proofs.HomeLaws.{home_done, home_ready, parts_home, told_holds, record_read, told_done, merged_done}
@@ -103,11 +103,10 @@ read_parts_fit-requires c =
     (w.full, subst Within (sym c.counts_of-n.ensures) w.within, h.3, h.2, h.0, h.1)
 
 pub returns-then-not-read_parts_fit : goal.returns-then-not-read_parts_fit
-unfolding number_of
+unfolding number_of paper_read
 returns-then-not-read_parts_fit c =
-    let e = read_book_law _ _ _ c.requires.0 c.requires.1 c.requires.2 (test_failed (parts_said c.before.before) c.if-not-read_parts_fit.true-raw) in
-    let told = read_refused BadBook _ c.refused.ensures e in
-    record { answer = told.0; holds = told.1; book = after_refused BadBook _ _ e }
+    let e = read_book_law _ _ _ c.requires.0 c.requires.1 c.requires.2 (test_failed (parts_said c.before) c.if-not-read_parts_fit.true-raw) in
+    record { answer = by_refusal BadBook _ e; holds = tt; book = after_refused BadBook _ _ e }
 
 pub settle_home-requires : goal.settle_home-requires
 settle_home-requires c =
@@ -135,8 +134,8 @@ slice_bounds-tell-end c =
     let e = c.stored_at-at.ensures in
     omega (arith, full, h.0, h.2, e)
 
-pub tell-answer-requires : goal.tell-answer-requires
-tell-answer-requires c =
+pub tell-reading-requires : goal.tell-reading-requires
+tell-reading-requires c =
     let at = c.stored_at-at in
     let h = small c.before.before.before.before.before.before.before.before in
     let full = settled_full c.before.before.before.before in
@@ -145,7 +144,7 @@ tell-answer-requires c =
     (ap length (part_from c.settle_home.new.book 9 refl) ∙ length_part c.settle_home.new.book at.result 9 room, h.4)
 
 pub crew_at-requires : goal.crew_at-requires
-crew_at-requires c = (small c.before.before.before.before.before.before.before.before.before.before.before).3
+crew_at-requires c = (small c.before.before.before.before.before.before.before.before.before.before).3
 
 pub merge-requires : goal.merge-requires
 unfolding cut
@@ -154,7 +153,7 @@ merge-requires c =
     let h = small c.before.before.before.before.before.before.before.before.before.before.before.before.before in
     let full = settled_full c.before.before.before.before.before.before.before.before.before in
     let e = at.ensures in
-    let four : length c.tell-answer.result.vector ≡ 4 = ap (λ (v : List ℕ). length v) c.tell-answer.ensures.vector_value.0 in
+    let four : length c.tell-reading.result.vector ≡ 4 = ap (λ (v : List ℕ). length v) c.tell-reading.ensures.vector_value.0 in
     (omega (arith, full, h.3, h.4, e), omega (arith, h.4, four))
 
 pub returns : goal.returns
@@ -166,7 +165,7 @@ returns c =
     let done = read_good book c.args.c.0 c.args.k.0 c.requires.0 c.requires.1 c.requires.2 (parts_fit_law c.before.before.before.before.before.before.before.before.before.before.before.before.before.before.before) in
     let home = home_done book c.args.c.0 c.args.k.0 counts depot c.shelf_for-s.ensures c.settle_home.ensures in
     let found = record_read book c.args.c.0 c.args.k.0 counts home depot c.stored_at-at.ensures in
-    let said = c.tell-answer.ensures in
+    let said = c.tell-reading.ensures in
     let answer = told_done book c.args.c.0 c.args.k.0 counts home (λ (n : ℕ) (r : List ℕ). reads (told n r)) found said.result_value in
     let vector = told_done book c.args.c.0 c.args.k.0 counts home (λ (n : ℕ) (r : List ℕ). cut n (vector_of r)) found said.vector_value.0 in
     let depots = told_done book c.args.c.0 c.args.k.0 counts home (λ (n : ℕ) (r : List ℕ). n) found said.vector_value.1 in

@@ -24,9 +24,9 @@ returns-then-number-ne0 c = made_refused (recorded_as (asked_by c.before.before.
 
 pub tell-requires : goal.tell-requires
 tell-requires c =
-    let call = recorded_as (asked_by c.before.before.before.before.before.before.before.before) c.recorded-told.ensures in
+    let call = recorded_as (asked_by c.before.before.before.before.before.before.before) c.recorded-told.ensures in
     (c.requires.1, size_few call c.if-number-ne0.false, call.holds)
 
 pub returns : goal.returns
 returns c =
-    made_done (recorded_as (asked_by c.before.before.before.before.before.before.before.before.before.before.before) c.recorded-told.ensures) c.if-number-ne0.false _ c.tell.ensures
+    made_done (recorded_as (asked_by c.before.before.before.before.before.before.before.before.before.before) c.recorded-told.ensures) c.if-number-ne0.false _ c.tell.ensures

@@ -1,7 +1,7 @@
 -- `calls::perform::perform` meets its contract: the promise of the call that the request names settles reply and book.
 -- Assumes nothing.
 use Rattle.upkeep.specs.Requests.{setting_up, did_read, did_write, ticked, took, refreshed, moved, did_list}
-use Rattle.calls.proofs.ReplyLaws.{performed}
+use Rattle.calls.proofs.ReplyLaws.{read_reply, write_reply, list_reply, performed}
 use Rattle.calls.proofs.perform.perform.Goals as goal
 
 pub returns-in-Setup : goal.returns-in-Setup
@@ -13,13 +13,13 @@ returns-in-Setup c =
 pub returns-in-Read : goal.returns-in-Read
 returns-in-Read c =
     let promise = c.read.ensures in
-    let reply = c.found.ensures in
-    performed _ c.in-Read.is (did_read promise) reply.0 (reply.1 promise.holds)
+    let reply = read_reply _ _ c.map.ensures.cases promise.holds in
+    performed _ c.in-Read.is (did_read promise) reply.0 reply.1
 
 pub returns-in-Write : goal.returns-in-Write
 returns-in-Write c =
     let promise = c.write.ensures in
-    let reply = c.wrote.ensures in
+    let reply = write_reply _ _ c.map-in-Write.ensures.cases in
     performed _ c.in-Write.is (did_write promise) reply.0 reply.1
 
 pub returns-in-Tick : goal.returns-in-Tick
@@ -49,5 +49,5 @@ returns-in-Move c =
 pub returns-in-List : goal.returns-in-List
 returns-in-List c =
     let promise = c.list.ensures in
-    let reply = c.listed.ensures in
-    performed _ c.in-List.is (did_list promise) reply.0 (reply.1 promise.holds)
+    let reply = list_reply _ _ c.map-in-List.ensures.cases promise.holds in
+    performed _ c.in-List.is (did_list promise) reply.0 reply.1
