@@ -1,6 +1,6 @@
 -- Recovery goes on by one record, or stops before it; behind the last byte it is whole. And it never counts more bytes than there are.
 -- Assumes nothing.
-use Prim.Native.Nat.{ℕ, zero, suc, ◌+◌, ◌-◌, ◌≤◌, ◌<◌}
+use Prim.Native.Nat.{ℕ, ◌+◌, ◌-◌, ◌≤◌, ◌<◌}
 use native.Mathlib.Omega.{arith}
 use mathlib.Core.Path.{◌≡◌, refl, sym, ◌∙◌, ap, ap₂, subst}
 use mathlib.Core.Logic.{⊎_elim}
@@ -11,7 +11,7 @@ use lib.ListN.{length, take, drop, length-append, length-drop, drop_of_length-le
 use lib.Seq.{length-take-le, take-length, take-add, drop_at, drop-drop}
 use Rattle.loops.proofs.BoolLaws.{decided, pick_true, pick_false}
 use Rattle.book.specs.Words.{part}
-use Rattle.upkeep.specs.Requests.{Request, number_at, book_after}
+use Rattle.upkeep.specs.Requests.{number_at}
 use Rattle.upkeep.proofs.NeverBadAnswer.{refused_stays}
 use Rattle.journal.specs.declared.recover.Fault.{Fault}
 use Rattle.journal.specs.declared.recover.Fault.TheVariants.{Fine, Refused, Strange}

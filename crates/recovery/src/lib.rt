@@ -2,7 +2,7 @@
 #![tactic(auto)]
 
 ghost use Rattle.std.specs.Prelude.{◌≡◌, ◌+◌, ◌≤◌, length, take, drop};
-ghost use Rattle.book.specs.Words.{part, put};
+ghost use Rattle.book.specs.Words.{put};
 ghost use Rattle.replayer.specs.Turn.{most_numbers};
 ghost use Rattle.recovery.specs.Promises.{Recovery};
 
@@ -52,18 +52,6 @@ pub fn recover(book: &mut [u32], bytes: &[u8]) -> Recovered
     replay_all(book, bytes, &mut numbers)
 }
 
-// The n bytes from `from` on stand at the front.
-fn bring_forward(buffer: &mut [u8], from: usize, n: usize)
-    requires { from + n ≤ length buffer.old }
-    ensures { buffer.new ≡ put buffer.old 0 (part buffer.old from n) }
-{
-    let mut i = 0;
-    while i < n {
-        buffer[i] = buffer[from + i];
-        i += 1;
-    }
-}
-
 // The first `filled` bytes of a buffer are recovered, and those behind the ones that count are brought to its front.
 pub fn recover_buffer(book: &mut [u32], buffer: &mut [u8], filled: usize) -> Recovered
     requires { filled ≤ length buffer.old }
@@ -71,7 +59,6 @@ pub fn recover_buffer(book: &mut [u32], buffer: &mut [u8], filled: usize) -> Rec
     ensures buffer_after { buffer.new ≡ put buffer.old 0 (drop result.bytes (take filled buffer.old)) }
 {
     let told = recover(book, &buffer[..filled]);
-    let counted = told.bytes;
-    bring_forward(buffer, counted, filled - counted);
+    buffer.copy_within(told.bytes..filled, 0);
     told
 }

@@ -1,6 +1,5 @@
 -- `recovery::replay_all` meets its contract. The loop's invariant: what the bytes come to is what those left come to, from the book as it stands.
 -- Assumes nothing.
-use Prim.Native.Nat.{◌-◌}
 use native.Mathlib.Omega.{arith}
 use mathlib.Core.Path.{refl, ◌∙◌}
 use Rattle.recovery.proofs.RecoveryLaws.{far_start, far_more, far_stop, far_end, left_some, left_turn}
