@@ -10,7 +10,7 @@ use image::{IMAGE_BYTES, save};
 use restore::arguments::arg_count;
 use restore::files::{PATH_ROOM, create, open_read, remove, rename, sync_folder};
 use restore::image_file::load_named;
-use restore::journal_file::{is_sound, recover_file};
+use restore::journal_file::recover_sound;
 use restore::tell::{tell, tell_failure, tell_file, tell_unnamed};
 use std::env::Env;
 use std::fs::{Files, OpenFile};
@@ -31,10 +31,8 @@ fn is_free(files: &impl Files, notes: &impl Print, path: &[u8]) -> bool {
             tell(notes, b"it is there already: nothing was written\n");
             false
         }
+        Err(error) if error.kind() == io::ErrorKind::NotFound => true,
         Err(error) => {
-            if error.kind() == io::ErrorKind::NotFound {
-                return true;
-            }
             tell_failure(notes, path, &error);
             false
         }
@@ -129,10 +127,7 @@ fn is_recovered(
     requires { Began book.old }
 {
     match open_read(files, path) {
-        Ok(mut journal) => {
-            let restored = recover_file(notes, &mut journal, book);
-            is_sound(notes, path, &mut journal, restored)
-        }
+        Ok(mut journal) => recover_sound(notes, path, &mut journal, book).is_some(),
         Err(error) => {
             tell_failure(notes, path, &error);
             false
@@ -176,14 +171,9 @@ fn save_behind_image<R: Files + Env>(rt: &R, notes: &(impl Print + IsTerminal)) 
 
 fn main(rt: HostRuntime) {
     let notes = rt.stderr();
-    let words = arg_count(&rt, FROM_IMAGE + 1);
-    if words == PLAIN {
-        save_journal(&rt, &notes);
-        return;
+    match arg_count(&rt, FROM_IMAGE + 1) {
+        PLAIN => save_journal(&rt, &notes),
+        FROM_IMAGE => save_behind_image(&rt, &notes),
+        _ => tell(&notes, b"usage: snapshot JOURNAL NEW_IMAGE [IMAGE]\n"),
     }
-    if words == FROM_IMAGE {
-        save_behind_image(&rt, &notes);
-        return;
-    }
-    tell(&notes, b"usage: snapshot JOURNAL NEW_IMAGE [IMAGE]\n");
 }
