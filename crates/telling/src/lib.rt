@@ -28,8 +28,7 @@ const BAD_CARD: u32 = 14;
 
 // The words of what a read tells.
 pub fn reading_words(reading: Reading) -> [u32; READ_WORDS]
-    requires { Holds (paper_read (Ok reading)) reading.vector reading.depots }
-    ensures { result ≡ words_of (paper_read (Ok reading)) }
+    ensures { Holds (paper_read (Ok reading)) reading.vector reading.depots → result ≡ words_of (paper_read (Ok reading)) }
 {
     let v = reading.vector;
     match reading.payload {

@@ -8,17 +8,13 @@ use Rattle.telling.specs.Told.{words_of}
 use Rattle.recorder_told.proofs.ToldLaws.{words_as, no_words}
 use Rattle.recorder_told.proofs.answer_words.Goals as goal
 
-pub reading_words-requires : goal.reading_words-requires
-unfolding on_paper paper_reply Carries
-reading_words-requires c = carried (known_done c.in-Ok.is c.in-Read.is) c.requires
-
 pub returns-in-Done : goal.returns-in-Done
 unfolding on_paper paper_reply words_of
 returns-in-Done c = no_words (known_done c.in-Ok.is c.in-Done.is) refl
 
 pub returns-in-Read : goal.returns-in-Read
-unfolding on_paper paper_reply
-returns-in-Read c = words_as (known_done c.in-Ok.is c.in-Read.is) c.fill.ensures c.reading_words.ensures
+unfolding on_paper paper_reply Carries
+returns-in-Read c = words_as (known_done c.in-Ok.is c.in-Read.is) c.fill.ensures (c.reading_words.ensures (carried (known_done c.in-Ok.is c.in-Read.is) c.requires))
 
 pub returns-in-Written : goal.returns-in-Written
 unfolding on_paper paper_reply

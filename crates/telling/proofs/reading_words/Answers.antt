@@ -10,10 +10,10 @@ pub returns-in-Some : goal.returns-in-Some
 unfolding words_of paper_found entries_in padded
 returns-in-Some c =
     let e = c.in-Some.is in
-    after_four (vector_told c.args.reading e c.requires) ∙ ap words_of (found_as c.args.reading e)
+    λ h. after_four (vector_told c.args.reading e h) ∙ ap words_of (found_as c.args.reading e)
 
 pub returns-in-None : goal.returns-in-None
 unfolding words_of paper_found entries_in padded
 returns-in-None c =
     let e = c.in-None.is in
-    after_four (vector_told c.args.reading e c.requires) ∙ ap words_of (found_as c.args.reading e)
+    λ h. after_four (vector_told c.args.reading e h) ∙ ap words_of (found_as c.args.reading e)
