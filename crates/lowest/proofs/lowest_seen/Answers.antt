@@ -1,11 +1,30 @@
--- `lowest::lowest_seen` meets its contract.
+-- `lowest::lowest_seen` meets its contract. The loop's invariant: each entry is the lowest stamp of the shelves passed.
 -- Assumes nothing.
-use Rattle.std.proofs.Common.{rules, tests}
+use native.Mathlib.Nat.{add-zero}
+use mathlib.Core.Path.{refl, sym}
 use Rattle.links.specs.Send.{lowest_seen}
-use Rattle.links.proofs.FourLaws.{four_made}
+use Rattle.lowest.proofs.LowestCode.{lowest_none, lowest_more, lowest_told, four_same}
 use Rattle.lowest.proofs.lowest_seen.Goals as goal
+
+pub loop-s-init : goal.loop-s-init
+loop-s-init c = (lowest_none _ _ _, lowest_none _ _ _, lowest_none _ _ _, lowest_none _ _ _)
+
+pub loop-s-preserved : goal.loop-s-preserved
+loop-s-preserved c =
+    let loop = c.loop-s in (
+      lowest_more _ _ _ _ loop.invariant.0 c.min-first.ensures (sym (add-zero _)) c.seen_at-at.ensures c.nth.ensures,
+      lowest_more _ _ _ _ loop.invariant.1 c.min-second.ensures refl c.seen_at-at.ensures c.nth.ensures,
+      lowest_more _ _ _ _ loop.invariant.2 c.min-third.ensures refl c.seen_at-at.ensures c.nth.ensures,
+      lowest_more _ _ _ _ loop.invariant.3 c.min-fourth.ensures refl c.seen_at-at.ensures c.nth.ensures,
+    )
 
 pub returns : goal.returns
 returns c =
-    let args = c.args in
-    four_made (lowest_seen args.n args.p args.d.0 args.book.now) _ _ (λ x b q l k. search (rules, tests)) c.from_fn.ensures.items
+    let all = c.loop-s.auto.s-end in
+    let passed = c.loop-s-test.false in
+    let inv = c.loop-s.invariant in
+    four_same (lowest_seen _ _ _ _)
+    (lowest_told _ _ _ _ all passed inv.0 c.of_other.ensures)
+    (lowest_told _ _ _ _ all passed inv.1 c.of_other-2.ensures)
+    (lowest_told _ _ _ _ all passed inv.2 c.of_other-3.ensures)
+    (lowest_told _ _ _ _ all passed inv.3 c.of_other-4.ensures)
