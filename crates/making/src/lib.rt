@@ -88,10 +88,10 @@ fn made_copy(
     let vector = made_vector(book, n, c, d, stamp);
     message_of(Version {
         bearing: word(k.index()),
-        value: value,
-        card: card,
+        value,
+        card,
         origin: word(d.index()),
-        vector: vector,
+        vector,
     })
 }
 

@@ -52,7 +52,7 @@ fn list_at(book: &mut [u32], c: Crew, bearings: &[u32]) -> Result<Page, Refusal>
     Ok(Page {
         bearings: bearings.len(),
         depots: n.depots,
-        words: words,
+        words,
     })
 }
 
@@ -64,9 +64,7 @@ pub fn list(book: &mut [u32], crew: u32, bearings: &[u32]) -> Result<Page, Refus
         return Err(Refusal::BadBook);
     }
     let n = counts_of(book);
-    let Some(c) = Crew::checked(crew, n.crews) else {
-        return Err(Refusal::BadCrew);
-    };
+    let c = Crew::checked(crew, n.crews).ok_or(Refusal::BadCrew)?;
     if !is_list(bearings) {
         return Err(Refusal::BadList);
     }

@@ -31,7 +31,7 @@ fn tell(version: &[u32], n: usize) -> Reading
     if is_zero(&version[VECTOR..RECORD_WORDS], n) {
         return Reading {
             payload: None,
-            vector: vector,
+            vector,
             depots: n,
         };
     }
@@ -41,7 +41,7 @@ fn tell(version: &[u32], n: usize) -> Reading
             diameter: version[DIAMETER],
             width: version[WIDTH],
         }),
-        vector: vector,
+        vector,
         depots: n,
     }
 }

@@ -71,11 +71,7 @@ pub fn move_crew(book: &mut [u32], crew: u32, depot: u32) -> Result<(), Refusal>
         return Err(Refusal::BadBook);
     }
     let n = counts_of(book);
-    let Some(c) = Crew::checked(crew, n.crews) else {
-        return Err(Refusal::BadCrew);
-    };
-    let Some(d) = Depot::checked(depot, n.depots) else {
-        return Err(Refusal::BadDepot);
-    };
+    let c = Crew::checked(crew, n.crews).ok_or(Refusal::BadCrew)?;
+    let d = Depot::checked(depot, n.depots).ok_or(Refusal::BadDepot)?;
     move_at(book, c, d)
 }

@@ -18,7 +18,7 @@ fn take_at(book: &mut [u32], d: Depot, s: Shelf, from: Depot) -> Result<(), Refu
     requires { (base_fit book.old ≡ true) × (d.0 < (counts_of book.old).depots) × (from.0 < (counts_of book.old).depots) × (s.0 < (counts_of book.old).shelves) }
     ensures { Take book.old d.0 s.0 from.0 result book.new }
 {
-    if d.index() == from.index() {
+    if d == from {
         return Err(Refusal::SameDepot);
     }
     if !take_parts_fit(book, counts_of(book), d, s, from) {

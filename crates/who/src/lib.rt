@@ -75,18 +75,14 @@ pub fn who_has(book: &[u32], depot: u32, bearing: u32) -> Result<Holders, Refusa
         return Err(Refusal::BadBook);
     }
     let n = counts_of(book);
-    let Some(d) = Depot::checked(depot, n.depots) else {
-        return Err(Refusal::BadDepot);
-    };
-    let Some(k) = Bearing::checked(bearing, n.bearings) else {
-        return Err(Refusal::BadKey);
-    };
+    let d = Depot::checked(depot, n.depots).ok_or(Refusal::BadDepot)?;
+    let k = Bearing::checked(bearing, n.bearings).ok_or(Refusal::BadKey)?;
     if !stores_fit(book, n, k) {
         return Err(Refusal::BadBook);
     }
     let mask = mask_of(book, n.depots, d, k);
     Ok(Holders {
-        mask: mask,
-        count: u32::count_ones(mask),
+        mask,
+        count: mask.count_ones(),
     })
 }

@@ -31,9 +31,7 @@ fn write_at(book: &mut [u32], c: Crew, k: Bearing, payload: Payload) -> Result<W
     if LAST_DAY < payload.value {
         return Err(Refusal::BadDate);
     }
-    let Some(card) = card_of(payload.diameter, payload.width) else {
-        return Err(Refusal::BadCard);
-    };
+    let card = card_of(payload.diameter, payload.width).ok_or(Refusal::BadCard)?;
     let clock = clock_of(book, d, s);
     if clock < book[crew_at(c) + d.index()] {
         return Err(Refusal::Wait);

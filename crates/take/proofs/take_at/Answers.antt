@@ -5,6 +5,7 @@ use native.Mathlib.Nat.{lt_of_lt_of_le}
 use native.Mathlib.Omega.{arith}
 use mathlib.Core.Path.{◌≡◌, ◌∙◌, sym, ap, subst}
 use mathlib.Core.Bool.{true}
+use borrow.Author.Tests.{true-eqb, false-eqb}
 use Rattle.loops.proofs.BoolLaws.{and_right, test_passed, test_failed}
 use Rattle.book.specs.declared.parts.Counts.{Counts}
 use Rattle.book.specs.Layout.{end, counts_of, seen, link_of, held, taken}
@@ -25,8 +26,8 @@ use Rattle.take.proofs.take_at.Reads as reads
 abbrev Start : Type 0
 Start = lts.Start tie.the-claims reads.Pre reads.Post
 
-abbrev Else-index : Type 0
-Else-index = lts.Else1 tie.the-claims reads.Pre reads.Post
+abbrev Else-eq : Type 0
+Else-eq = lts.Else1 tie.the-claims reads.Pre reads.Post
 
 abbrev After-take_parts_fit : Type 0
 After-take_parts_fit = lts.After-take_parts_fit tie.the-claims reads.Pre reads.Post
@@ -45,8 +46,8 @@ base : (c : Start) → Based c.args.book.now
 base c = base_open _ c.requires.0
 
 -- the two depots differ
-other : (c : Else-index) → let args = c.args in args.d.0 ≡ args.from.0 → ⊥
-other c e = c.if-index.false (c.index.ensures ∙ e ∙ sym c.index-2.ensures)
+other : (c : Else-eq) → let args = c.args in args.d.0 ≡ args.from.0 → ⊥
+other c = false-eqb _ _ c.if-eq.ensures
 
 -- what the test of the parts says
 parts_said :
@@ -69,7 +70,7 @@ fits c =
 
 small : (c : After-between-q) → c.between-q.result.0 < 64
 small c =
-    let w = base c.before.before.before.before.before.before.before.before in
+    let w = base c.before.before.before.before.before.before.before.before.before in
     omega (arith, c.between-q.ensures, c.requires.1, c.requires.2, c.requires.3, w.within.depots, w.within.shelves)
 
 -- the link's head
@@ -82,20 +83,20 @@ heads c =
     let args = c.args in
     (c.held_of-count.ensures ∙ ap (held args.book.now) c.between-q.ensures, c.taken_of-done.ensures ∙ ap (taken args.book.now) c.between-q.ensures)
 
-pub returns-then-index : goal.returns-then-index
+pub returns-then-eq : goal.returns-then-eq
 unfolding number_of paper
-returns-then-index c =
+returns-then-eq c =
     let pre = c.requires in
-    let same = sym c.index.ensures ∙ c.if-index.true ∙ c.index-2.ensures in
+    let same = true-eqb _ _ c.if-eq.ensures in
     let e = take_same _ _ _ _ (take_self _ _ _ _ pre.0 pre.1 pre.2 pre.3 same) pre.1 pre.2 pre.3 same in
     record { answer = by_refusal SameDepot _ e; book = after_refused SameDepot _ _ e }
 
 pub counts_of-requires : goal.counts_of-requires
-counts_of-requires c = (base c.before.before.before.before).full
+counts_of-requires c = (base c.before.before.before.before.before).full
 
 pub take_parts_fit-requires : goal.take_parts_fit-requires
 take_parts_fit-requires c =
-    let w = base c.before.before.before.before.before in (
+    let w = base c.before.before.before.before.before.before in (
       w.full,
       subst Within (sym c.counts_of.ensures) w.within,
       lt_of_lt_of_le c.requires.1 w.within.depots,
@@ -111,14 +112,14 @@ returns-then-not-take_parts_fit c =
     record { answer = by_refusal BadBook _ e; book = after_refused BadBook _ _ e }
 
 pub between-q-requires : goal.between-q-requires
-between-q-requires c = let w = base c.before.before.before.before.before.before.before in
+between-q-requires c = let w = base c.before.before.before.before.before.before.before.before in
     (lt_of_lt_of_le c.requires.3 w.within.shelves, lt_of_lt_of_le c.requires.2 w.within.depots, lt_of_lt_of_le c.requires.1 w.within.depots)
 
 pub held_of-count-requires : goal.held_of-count-requires
-held_of-count-requires c = ((base c.before.before.before.before.before.before.before.before).full, small c)
+held_of-count-requires c = ((base c.before.before.before.before.before.before.before.before.before).full, small c)
 
 pub taken_of-done-requires : goal.taken_of-done-requires
-taken_of-done-requires c = ((base c.before.before.before.before.before.before.before.before.before).full, small c.before)
+taken_of-done-requires c = ((base c.before.before.before.before.before.before.before.before.before.before).full, small c.before)
 
 pub returns-then-count-done : goal.returns-then-count-done
 unfolding number_of paper
@@ -134,7 +135,7 @@ returns-then-count-done c =
 pub take_one-requires : goal.take_one-requires
 unfolding take_parts
 take_one-requires c =
-    let w = base c.before.before.before.before.before.before.before.before.before.before.before.before in
+    let w = base c.before.before.before.before.before.before.before.before.before.before.before.before.before in
     let pre = c.requires in
     let args = c.args in
     let numbers = heads c.before.before in (

@@ -6,7 +6,7 @@ use native.Mathlib.Omega.{arith}
 use mathlib.Core.Path.{◌≡◌, ◌∙◌, sym, ap, subst, subst₂}
 use mathlib.Core.Bool.{true}
 use lib.ListN.{get_or}
-use Rattle.std.specs.Prelude.{Some}
+use Rattle.std.specs.Prelude.{None, Some, Err}
 use Rattle.loops.proofs.BoolLaws.{test_passed, test_failed}
 use Rattle.book.specs.declared.parts.Counts.{Counts}
 use Rattle.book.specs.Layout.{end, counts_of, home, crew_vector, clock}
@@ -37,40 +37,40 @@ use Rattle.write.proofs.write_at.Reads as reads
 
 -- what is known at a place, for the lemmas below
 abbrev Else-not-write_parts_fit : Type 0
-Else-not-write_parts_fit = lts.Else1 tie.the-claims reads.Pre reads.Post
+Else-not-write_parts_fit = lts.Else1 tie.the-claims reads.Pre reads.Post tie.handed_clauses
 
 abbrev Start : Type 0
-Start = lts.Start tie.the-claims reads.Pre reads.Post
+Start = lts.Start tie.the-claims reads.Pre reads.Post tie.handed_clauses
 
 abbrev Else-payload-gt-LAST_DAY : Type 0
-Else-payload-gt-LAST_DAY = lts.Else2 tie.the-claims reads.Pre reads.Post
+Else-payload-gt-LAST_DAY = lts.Else2 tie.the-claims reads.Pre reads.Post tie.handed_clauses
 
-abbrev In-Some : Type 0
-In-Some = lts.Past-After-known_told tie.the-claims reads.Pre reads.Post
+abbrev In-Ok : Type 0
+In-Ok = lts.Past-After-known_told tie.the-claims reads.Pre reads.Post tie.handed_clauses
 
 abbrev After-index : Type 0
-After-index = lts.After-index tie.the-claims reads.Pre reads.Post
+After-index = lts.After-index tie.the-claims reads.Pre reads.Post tie.handed_clauses
 
 abbrev Else-clock-book : Type 0
-Else-clock-book = lts.Else3 tie.the-claims reads.Pre reads.Post
+Else-clock-book = lts.Else3 tie.the-claims reads.Pre reads.Post tie.handed_clauses
 
 abbrev After-write_parts_fit : Type 0
-After-write_parts_fit = lts.After-write_parts_fit tie.the-claims reads.Pre reads.Post
+After-write_parts_fit = lts.After-write_parts_fit tie.the-claims reads.Pre reads.Post tie.handed_clauses
 
 abbrev After-clock_of-clock : Type 0
-After-clock_of-clock = lts.After-clock_of tie.the-claims reads.Pre reads.Post
+After-clock_of-clock = lts.After-clock_of tie.the-claims reads.Pre reads.Post tie.handed_clauses
 
 abbrev After-shelf_for-s : Type 0
-After-shelf_for-s = lts.After-shelf_for tie.the-claims reads.Pre reads.Post
+After-shelf_for-s = lts.After-shelf_for tie.the-claims reads.Pre reads.Post tie.handed_clauses
 
 abbrev Else-clock-ge-END : Type 0
-Else-clock-ge-END = lts.Else4 tie.the-claims reads.Pre reads.Post
+Else-clock-ge-END = lts.Else4 tie.the-claims reads.Pre reads.Post tie.handed_clauses
 
 abbrev After-is_roomy : Type 0
-After-is_roomy = lts.After-is_roomy tie.the-claims reads.Pre reads.Post
+After-is_roomy = lts.After-is_roomy tie.the-claims reads.Pre reads.Post tie.handed_clauses
 
 abbrev Else-not-is_roomy : Type 0
-Else-not-is_roomy = lts.Else5 tie.the-claims reads.Pre reads.Post
+Else-not-is_roomy = lts.Else5 tie.the-claims reads.Pre reads.Post tie.handed_clauses
 
 -- the steps that later ones look back to: the call's begin, the parts judged, the day, the card, and the crew's home entry
 abbrev begin : Else-not-write_parts_fit → Start
@@ -79,10 +79,10 @@ begin c = c.before.before.before.before.before.before
 abbrev parts : Else-payload-gt-LAST_DAY → Else-not-write_parts_fit
 parts c = c.before.before
 
-abbrev day : In-Some → Else-payload-gt-LAST_DAY
-day c = c.before.before
+abbrev day : In-Ok → Else-payload-gt-LAST_DAY
+day c = c.before.before.before.before
 
-abbrev card : After-index → In-Some
+abbrev card : After-index → In-Ok
 card c = c.before.before.before
 
 abbrev index : Else-clock-book → After-index
@@ -109,13 +109,15 @@ dated : (c : Else-payload-gt-LAST_DAY) → c.args.payload.value ≤ last_day
 dated c = omega (arith, c.if-payload-gt-LAST_DAY.false)
 
 -- the card that was made is the one asked for, and its words are the payload's
-good : (c : In-Some) → let p = c.args.payload in card_answer p.diameter p.width ≡ Some c.in-Some.card
-good c = sym c.card_of.ensures ∙ c.in-Some.is
+good : (c : In-Ok) → let p = c.args.payload in card_answer p.diameter p.width ≡ Some c.in_ok-card.card
+good c =
+    let some : c.card_of.result ≡ Some c.in_ok-card.card = grind arith in
+    sym c.card_of.ensures ∙ some
 
-carded : (c : In-Some) → let p = c.args.payload in card_fit p.diameter p.width ≡ true
+carded : (c : In-Ok) → let p = c.args.payload in card_fit p.diameter p.width ≡ true
 carded c = (good_tells _ _ _ (good c)).0
 
-same_payload : (c : In-Some) → let p = c.args.payload in payload_from p.value c.in-Some.card ≡ p
+same_payload : (c : In-Ok) → let p = c.args.payload in payload_from p.value c.in_ok-card.card ≡ p
 same_payload c = payload_back _ _ (good c)
 
 -- where the write stands: the home shelf's clock, and the crew's home entry
@@ -187,7 +189,7 @@ roomy_said c =
     ∙ (λ z. roomy c.counts_of-n.result.depots (c.home_depot-d.ensures z) (c.shelf_for-s.ensures z) book)
     ∙ ap (λ (n : Counts). roomy n.depots (home book args.c.0) (args.k.0 % n.shelves) book) c.counts_of-n.ensures
 
-abbrev known : Else-not-is_roomy → In-Some
+abbrev known : Else-not-is_roomy → In-Ok
 known c = card (index c.before.before.before)
 
 passed : (c : Else-not-is_roomy) → let args = c.args in write_number args.book.now args.c.0 args.k.0 args.payload ≡ 0
@@ -200,7 +202,7 @@ passed c =
 may :
     (c : Else-not-is_roomy) →
     let args = c.args in
-    MayWrite args.book.now args.c.0 args.k.0 (payload_from args.payload.value c.in-Some.card) c.counts_of-n.result.depots
+    MayWrite args.book.now args.c.0 args.k.0 (payload_from args.payload.value c.in_ok-card.card) c.counts_of-n.result.depots
     c.home_depot-d.result.0 c.shelf_for-s.result.0 (c.clock_of-clock.result + 1)
 may c =
     let args = c.args in
@@ -245,13 +247,15 @@ returns-then-payload-gt-LAST_DAY c =
     let e = write_date _ _ _ _ (fits c.before.before) start.requires.1 start.requires.2 c.if-payload-gt-LAST_DAY.true in
     record { answer = by_refusal BadDate _ e; book = after_refused BadDate _ _ e }
 
-pub returns-in_default : goal.returns-in_default
+pub returns-in_err-card : goal.returns-in_err-card
 unfolding number_of paper_write
-returns-in_default c =
-    let start = begin (parts c.before.before) in
-    let none = bad_tells _ _ (sym c.card_of.ensures ∙ c.in_default.is) in
-    let e = write_card _ _ _ _ (fits (parts c.before.before)) start.requires.1 start.requires.2 (dated c.before.before) none in
-    record { answer = by_refusal BadCard _ e; book = after_refused BadCard _ _ e }
+returns-in_err-card c =
+    let past = c.before.before.before.before.before in
+    let start = begin (parts past) in
+    let none : c.card_of.result ≡ None = grind arith in
+    let answer : c.from_residual.result ≡ Err BadCard = grind arith in
+    let e = write_card _ _ _ _ (fits (parts past)) start.requires.1 start.requires.2 (dated past) (bad_tells _ _ (sym c.card_of.ensures ∙ none)) in
+    rw answer (record { answer = by_refusal BadCard _ e; book = after_refused BadCard _ _ e })
 
 pub clock_of-clock-requires : goal.clock_of-clock-requires
 clock_of-clock-requires c = let h = small (parts (day c)).before.before in ((base (begin (parts (day c)))).full, h.0, h.1)
