@@ -71,6 +71,11 @@ pub fn size_of(depots: usize, kind: u32) -> usize
 pub fn whom_of(way: ReadyRoute) -> u8
     ensures { result ≡ whom way.route }
 {
-    let Route { counts, shelf, from, to } = way.route;
+    let Route {
+        counts,
+        shelf,
+        from,
+        to,
+    } = way.route;
     (64 * (counts.depots - 1) + 16 * shelf.index() + 4 * from.index() + to.index()) as u8
 }

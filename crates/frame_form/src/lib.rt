@@ -63,6 +63,7 @@ pub fn message_at(f: &[u8], way: ReadyRoute, at: usize) -> [u32; 10]
 }
 
 // Whether message i is right at a place.
+#[tactic(auto, using(crate::proofs::FormLaws::right_strange), unfolding(frame::specs::Frame::message_right))]
 fn message_is_right(f: &[u8], way: ReadyRoute, i: usize, at: usize) -> bool
     requires { offset_at i + 2 ≤ length f.now }
     ensures { result ≡ message_right way.route f.now i at }
@@ -70,14 +71,16 @@ fn message_is_right(f: &[u8], way: ReadyRoute, i: usize, at: usize) -> bool
     if half_at(f, FRONT + OFFSET * i) != at || f.len() <= at {
         return false;
     }
-    let Route {
-        counts,
-        shelf,
-        from,
-        to: _,
-    } = way.route;
-    let size = size_of(counts.depots, word_of_byte(f[at]));
-    0 < size && size <= f.len() - at && message_fits(&message_at(f, way, at), counts, shelf, from)
+    let route = way.route;
+    let size = size_of(route.counts.depots, word_of_byte(f[at]));
+    0 < size
+        && size <= f.len() - at
+        && message_fits(
+            &message_at(f, way, at),
+            route.counts,
+            route.shelf,
+            route.from,
+        )
 }
 
 // Whether each message is right where the one before it ends, and the last ends where the bytes end.
@@ -97,6 +100,7 @@ fn messages_are_right(f: &[u8], way: ReadyRoute, count: usize) -> bool
 }
 
 // Whether the header is there and for this link.
+#[tactic(auto, unfolding(frame::specs::Frame::head_right, fit::specs::Fit::between))]
 fn head_is_right(f: &[u8], way: ReadyRoute) -> bool
     ensures { result ≡ head_right way.route f.now }
 {
@@ -108,6 +112,7 @@ fn head_is_right(f: &[u8], way: ReadyRoute) -> bool
 }
 
 // Whether the bytes are a frame of this link.
+#[tactic(auto, unfolding(frame::specs::Frame::formed))]
 pub fn is_formed(f: &[u8], way: ReadyRoute) -> bool
     ensures { result ≡ formed way.route f.now }
 {
