@@ -72,15 +72,11 @@ fn message_is_right(f: &[u8], way: ReadyRoute, i: usize, at: usize) -> bool
         return false;
     }
     let route = way.route;
-    let size = size_of(route.counts.depots, word_of_byte(f[at]));
+    let n = route.counts;
+    let size = size_of(n.depots, word_of_byte(f[at]));
     0 < size
         && size <= f.len() - at
-        && message_fits(
-            &message_at(f, way, at),
-            route.counts,
-            route.shelf,
-            route.from,
-        )
+        && message_fits(&message_at(f, way, at), n, route.shelf, route.from)
 }
 
 // Whether each message is right where the one before it ends, and the last ends where the bytes end.

@@ -1,7 +1,9 @@
 -- `frame_writer::write_frame` meets its contract: the shared checks, then the rest.
 -- Assumes nothing.
 use Prim.Native.Nat.{◌<◌}
-use mathlib.Core.Path.{◌∙◌, sym, subst, subst₃}
+use native.Mathlib.Omega.{arith}
+use mathlib.Core.Path.{◌≡◌, ◌∙◌, sym, subst, subst₃}
+use Rattle.std.specs.Prelude.{Err}
 use Rattle.book.specs.Layout.{counts_of}
 use Rattle.book.specs.Numbers.{Depot, Shelf}
 use Rattle.register.proofs.CallLaws.{bad_link, good_link, not_done}
