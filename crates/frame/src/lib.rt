@@ -26,6 +26,13 @@ pub struct Route {
     pub to: Depot,
 }
 
+// One whose numbers were checked.
+#[derive(Clone, Copy)]
+pub struct ReadyRoute {
+    pub route: Route,
+    pub ghost ready: { Ready route },
+}
+
 // Why a frame was not written, or handed out nothing.
 #[derive(Clone, Copy)]
 pub enum FrameRefusal {
@@ -61,13 +68,14 @@ pub fn size_of(depots: usize, kind: u32) -> usize
 }
 
 // The first byte of a frame: for whom it is.
-pub fn whom_of(way: Route) -> u8
-    requires { Ready way }
-    ensures { result ≡ whom way }
+pub fn whom_of(way: ReadyRoute) -> u8
+    ensures { result ≡ whom way.route }
 {
-    let n = way.counts;
-    let s = way.shelf;
-    let from = way.from;
-    let to = way.to;
-    (64 * (n.depots - 1) + 16 * s.index() + 4 * from.index() + to.index()) as u8
+    let Route {
+        counts,
+        shelf,
+        from,
+        to,
+    } = way.route;
+    (64 * (counts.depots - 1) + 16 * shelf.index() + 4 * from.index() + to.index()) as u8
 }

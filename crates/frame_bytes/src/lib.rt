@@ -7,10 +7,9 @@ ghost use Rattle.book.specs.Words.{put};
 ghost use Rattle.book.specs.Layout.{book_words, links, link_room, slot_words, kind_of, slot};
 ghost use Rattle.wire.specs.Wire.{word_bytes, joined};
 ghost use Rattle.frame.specs.Frame.{body_at, size_of, sent_word, message_bytes, place_of, head_of, offsets_of, messages_of, encode_frame};
-ghost use Rattle.frame.specs.Promises.{Ready};
 
 use book::layout::{BEAT, COPY, Link, SLOT_STAMP, SLOT_WORDS};
-use frame::{FRONT, OFFSET, Route, size_of, whom_of};
+use frame::{FRONT, OFFSET, ReadyRoute, size_of, whom_of};
 use wire::{low, put_half, put_word};
 
 // Words of a copy that are sent before its vector: value, diameter, width.
@@ -95,9 +94,9 @@ fn put_messages(out: &mut [u8], book: &[u32], q: Link, taken: usize, count: usiz
 }
 
 // For whom it is, how many messages, and the serial stand first.
-fn put_head(out: &mut [u8], way: Route, count: usize, serial: u16)
-    requires { Ready way × (count ≤ link_room) × (4 ≤ length out.old) }
-    ensures { out.new ≡ put out.old 0 (head_of way serial count) }
+fn put_head(out: &mut [u8], way: ReadyRoute, count: usize, serial: u16)
+    requires { (count ≤ link_room) × (4 ≤ length out.old) }
+    ensures { out.new ≡ put out.old 0 (head_of way.route serial count) }
 {
     out[0] = whom_of(way);
     out[1] = count as u8;
@@ -108,18 +107,17 @@ fn put_head(out: &mut [u8], way: Route, count: usize, serial: u16)
 pub fn put_frame(
     out: &mut [u8],
     book: &[u32],
-    way: Route,
+    way: ReadyRoute,
     q: Link,
     taken: usize,
     count: usize,
     serial: u16,
 )
-    requires { Ready way × (length book.now ≡ book_words) × (q.0 < links) × (taken + count ≤ link_room)
-        × (place_of way.counts.depots count (λ i. slot book.now q.0 (taken + i)) count ≤ length out.old) }
-    ensures { out.new ≡ put out.old 0 (encode_frame way serial count (λ i. slot book.now q.0 (taken + i))) }
+    requires { (length book.now ≡ book_words) × (q.0 < links) × (taken + count ≤ link_room)
+        × (place_of way.route.counts.depots count (λ i. slot book.now q.0 (taken + i)) count ≤ length out.old) }
+    ensures { out.new ≡ put out.old 0 (encode_frame way.route serial count (λ i. slot book.now q.0 (taken + i))) }
 {
-    let n = way.counts;
-    let depots = n.depots;
+    let depots = way.route.counts.depots;
     put_head(out, way, count, serial);
     put_offsets(out, book, q, taken, count, depots);
     put_messages(out, book, q, taken, count, depots);

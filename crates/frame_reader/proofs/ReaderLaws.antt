@@ -1,12 +1,16 @@
 -- What the distance to the serial that is expected tells: the expected one, an old one, or neither.
 -- Assumes nothing.
-use Rattle.std.proofs.Common.{◌≡◌, ℕ, ◌+◌, ◌%◌, ◌<◌, ◌≤◌, true, false, sym, refl, ◌∙◌, arith, eq-eqb, ne_eqb, le-leb}
+use Rattle.std.proofs.Common.{◌≡◌, ℕ, ◌+◌, ◌-◌, ◌%◌, ◌<◌, ◌≤◌, true, false, sym, refl, ◌∙◌, arith, eq-eqb, ne_eqb, le-leb}
 use borrow.Author.Tests.{lt-leb}
 use Rattle.loops.proofs.BoolLaws.{and_intro, and_next}
 use Rattle.fit.specs.Fit.{between}
 use Rattle.wire.specs.Wire.{half_limit}
 use Rattle.frame.specs.Frame.{behind, is_old, is_expected}
 use Rattle.frame.proofs.Theorems.{behind_one}
+
+-- the distance by wrapping subtraction leads back
+pub wrapped : (e s : ℕ) → e < half_limit → s < half_limit → ((e + (half_limit - s)) % half_limit + s) % half_limit ≡ e
+wrapped e s he hs = omega (arith, he, hs)
 
 module _ (e s d : ℕ) (he : e < half_limit) (hs : s < half_limit) (hd : d < half_limit) (h : (d + s) % half_limit ≡ e) where
   far : behind e s ≡ d

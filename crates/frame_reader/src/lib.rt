@@ -7,25 +7,24 @@ ghost use Rattle.book.specs.Words.{put};
 ghost use Rattle.book.specs.Layout.{slot_words, counts_of};
 ghost use Rattle.named.specs.Named.{base_fit};
 ghost use Rattle.frame.specs.Frame.{count_in, formed, body_in};
-ghost use Rattle.frame.specs.Promises.{Ready, Outcome, arrival_rows, WasRead};
+ghost use Rattle.frame.specs.Promises.{Outcome, arrival_rows, WasRead};
 
 use book::layout::SLOT_WORDS;
 use book::numbers::{Depot, Shelf};
 use book::parts::counts_of;
 use book::words::write_words;
-use frame::{FRONT, FrameRefusal, OFFSET, Route, size_of};
+use frame::{FRONT, FrameRefusal, OFFSET, ReadyRoute, Route, size_of};
 use frame_form::{is_formed, message_at, word_of_byte};
 use paper::answer::Refusal;
 use register::check::check_link;
 use wire::{half_at, wide_byte};
 
 // The words of its messages stand in the buffer.
-fn hand_out(f: &[u8], way: Route, count: usize, out: &mut [u32])
-    requires { Ready way × (formed way f.now ≡ true) × (count ≡ count_in f.now) × (slot_words * count ≤ length out.old) }
-    ensures { out.new ≡ put out.old 0 (body_in way f.now) }
+fn hand_out(f: &[u8], way: ReadyRoute, count: usize, out: &mut [u32])
+    requires { (formed way.route f.now ≡ true) × (count ≡ count_in f.now) × (slot_words * count ≤ length out.old) }
+    ensures { out.new ≡ put out.old 0 (body_in way.route f.now) }
 {
-    let n = way.counts;
-    let depots = n.depots;
+    let depots = way.route.counts.depots;
     let mut at = FRONT + OFFSET * count;
     for i in 0..count {
         let m = message_at(f, way, at);
@@ -35,19 +34,18 @@ fn hand_out(f: &[u8], way: Route, count: usize, out: &mut [u32])
 }
 
 // A frame for a link where this serial is expected: its form, its serial, the room.
-fn read_on(f: &[u8], way: Route, expected: u16, out: &mut [u32]) -> Result<usize, FrameRefusal>
-    requires { Ready way }
+fn read_on(f: &[u8], way: ReadyRoute, expected: u16, out: &mut [u32]) -> Result<usize, FrameRefusal>
     ensures { Outcome
-        (first (arrival_rows way expected f.now (length out.old)))
+        (first (arrival_rows way.route expected f.now (length out.old)))
         (count_in f.now)
-        (put out.old 0 (body_in way f.now))
+        (put out.old 0 (body_in way.route f.now))
         out.old result out.new }
 {
     if !is_formed(f, way) {
         return Err(FrameRefusal::BadFrame);
     }
     let serial = half_at(f, OFFSET) as u16;
-    let behind = std::num::wrapping_sub_u16(expected, serial);
+    let behind = expected.wrapping_sub(serial);
     if behind != 0 {
         if behind <= 32767 {
             return Err(FrameRefusal::Old);
@@ -78,18 +76,13 @@ fn read_at(
     if d == from {
         return Err(FrameRefusal::Link(Refusal::SameDepot));
     }
-    let n = counts_of(book);
-    read_on(
-        f,
-        Route {
-            counts: n,
-            shelf: s,
-            from: from,
-            to: d,
-        },
-        expected,
-        out,
-    )
+    let route = Route {
+        counts: counts_of(book),
+        shelf: s,
+        from,
+        to: d,
+    };
+    read_on(f, ReadyRoute { route }, expected, out)
 }
 
 // Answers how many messages were handed out. Refuses, in this order: BAD BOOK, BAD DEPOT (either), BAD SHELF, SAME DEPOT, BAD FRAME, OLD, GAP, NO ROOM.

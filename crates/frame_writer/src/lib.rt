@@ -8,9 +8,9 @@ ghost use Rattle.named.specs.Named.{waiting_fit, base_fit};
 ghost use Rattle.frame.specs.Promises.{bad_count, Written};
 
 use book::layout::{LINK_ROOM, Link};
-use book::numbers::{Depot, Numbered, Shelf};
+use book::numbers::{Depot, Shelf};
 use book::parts::{Counts, counts_of, held_of, taken_of, wide};
-use frame::{FrameRefusal, Route};
+use frame::{FrameRefusal, ReadyRoute, Route};
 use frame_bytes::{put_frame, size_of_frame};
 use messages::{head_fits, waiting_fit};
 use paper::answer::Refusal;
@@ -30,16 +30,11 @@ fn waiting_fits(book: &[u32], n: Counts, s: Shelf, from: Depot, q: Link) -> bool
 }
 
 // Whether a count is one of a frame, where so many wait.
+#[tactic(auto, unfolding(frame::specs::Promises::bad_count))]
 fn is_count(count: usize, waiting: usize) -> bool
     ensures { result ≡ not (bad_count count waiting) }
 {
-    if count == 0 {
-        return false;
-    }
-    if LINK_ROOM < count {
-        return false;
-    }
-    count <= waiting
+    0 < count && count <= LINK_ROOM && count <= waiting
 }
 
 // The same for numbers that were checked.
@@ -55,7 +50,7 @@ fn write_at(
     requires { (base_fit book.now ≡ true) × (d.0 < (counts_of book.now).depots) × (from.0 < (counts_of book.now).depots) × (s.0 < (counts_of book.now).shelves) }
     ensures { Written book.now d.0 s.0 from.0 count serial out.old result out.new }
 {
-    if d.index() == from.index() {
+    if d == from {
         return Err(FrameRefusal::Link(Refusal::SameDepot));
     }
     let n = counts_of(book);
@@ -76,13 +71,13 @@ fn write_at(
     if out.len() < size {
         return Err(FrameRefusal::NoRoom);
     }
-    let way = Route {
+    let route = Route {
         counts: n,
         shelf: s,
-        from: from,
+        from,
         to: d,
     };
-    put_frame(out, book, way, q, taken, some, serial);
+    put_frame(out, book, ReadyRoute { route }, q, taken, some, serial);
     Ok(size)
 }
 

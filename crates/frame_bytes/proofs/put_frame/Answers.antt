@@ -15,30 +15,30 @@ put_head-requires c =
     let args = c.args in
     let pre = c.requires in
     let g : ℕ → List ℕ = λ j. slot args.book.now args.q.0 (args.taken + j) in
-    (pre.0, omega (arith, pre.3), omega (arith, pre.4, place_least args.way.counts.depots args.count g args.count))
+    (omega (arith, pre.2), omega (arith, pre.3, place_least args.way.route.counts.depots args.count g args.count))
 
 pub put_offsets-requires : goal.put_offsets-requires
 put_offsets-requires c =
     let args = c.args in
     let pre = c.requires in
     let g : ℕ → List ℕ = λ j. slot args.book.now args.q.0 (args.taken + j) in (
+      pre.0,
       pre.1,
       pre.2,
-      pre.3,
-      pre.0.counts.depots,
-      omega (arith, pre.4, place_least args.way.counts.depots args.count g args.count, ap length c.put_head.ensures ∙ length_put _ _ _),
+      args.way.ready.counts.depots,
+      omega (arith, pre.3, place_least args.way.route.counts.depots args.count g args.count, ap length c.put_head.ensures ∙ length_put _ _ _),
     )
 
 pub put_messages-requires : goal.put_messages-requires
 put_messages-requires c =
     let pre = c.requires in (
+      pre.0,
       pre.1,
       pre.2,
-      pre.3,
-      pre.0.counts.depots,
+      c.args.way.ready.counts.depots,
       omega (
         arith,
-        pre.4,
+        pre.3,
         ap length c.put_offsets.ensures
             ∙ length_put _ _ _,
         ap length c.put_head.ensures ∙ length_put _ _ _,

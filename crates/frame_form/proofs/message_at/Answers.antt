@@ -17,7 +17,7 @@ word_at-stamp-requires c =
     omega (
       arith,
       pre.ends,
-      size_beat c.args.way.counts.depots
+      size_beat c.args.way.route.counts.depots
           (get_or c.args.f.now c.args.at 0) (sym c.word_of_byte.ensures ∙ c.if-word_of_byte-eq-BEAT.true),
     )
 
@@ -27,14 +27,12 @@ returns-then-word_of_byte-eq-BEAT c = ap beat c.word_at-stamp.ensures ∙ sym (b
 
 pub copy_at-requires : goal.copy_at-requires
 copy_at-requires c =
-    let pre = c.requires in (
-      pre.ready,
-      omega (
-        arith,
-        pre.ends,
-        size_other c.args.way.counts.depots
-            (get_or c.args.f.now c.args.at 0) (λ e. c.if-word_of_byte-eq-BEAT.false (c.word_of_byte.ensures ∙ e)) pre.known,
-      ),
+    let pre = c.requires in
+    omega (
+      arith,
+      pre.ends,
+      size_other c.args.way.route.counts.depots
+          (get_or c.args.f.now c.args.at 0) (λ e. c.if-word_of_byte-eq-BEAT.false (c.word_of_byte.ensures ∙ e)) pre.known,
     )
 
 pub returns : goal.returns

@@ -28,34 +28,34 @@ After-size_of-at = lts.After-size_of tie.the-claims reads.Pre reads.Post goal.th
 one_said :
     (c : After-message_is_right) →
     let args = c.args in
-    c.message_is_right.result ≡ message_right args.way args.f.now c.loop-i.i (start_in args.way.counts.depots args.f.now c.loop-i.i)
+    c.message_is_right.result ≡ message_right args.way.route args.f.now c.loop-i.i (start_in args.way.route.counts.depots args.f.now c.loop-i.i)
 one_said c =
     let args = c.args in c.message_is_right.ensures ∙ ap
-    (message_right args.way args.f.now c.loop-i.i) c.loop-i.invariant.0
+    (message_right args.way.route args.f.now c.loop-i.i) c.loop-i.invariant.0
 
 -- the message that passed
 passed :
-    (c : Else-not-message_is_right) → let args = c.args in At args.way args.f.now
+    (c : Else-not-message_is_right) → let args = c.args in At args.way.route args.f.now
     c.loop-i.i c.loop-i.at
 passed c = message_says _ _ _ _ (test_passed c.message_is_right.ensures c.if-not-message_is_right.false-raw)
 
 size_is :
     (c : After-size_of-at) → let args = c.args in c.size_of-at.result
-    ≡ size_of args.way.counts.depots (get_or args.f.now c.loop-i.at 0)
-size_is c = c.size_of-at.ensures ∙ ap (size_of c.args.way.counts.depots) c.word_of_byte.ensures
+    ≡ size_of args.way.route.counts.depots (get_or args.f.now c.loop-i.at 0)
+size_is c = c.size_of-at.ensures ∙ ap (size_of c.args.way.route.counts.depots) c.word_of_byte.ensures
 
 pub loop-i-init : goal.loop-i-init
-loop-i-init c = (start_none _ _ c.requires.1, every_none _, c.requires.2)
+loop-i-init c = (start_none _ _ c.requires.0, every_none _, c.requires.1)
 
 pub message_is_right-requires : goal.message_is_right-requires
-message_is_right-requires c = (c.requires.0, omega (arith, c.requires.2, c.loop-i-test.true))
+message_is_right-requires c = omega (arith, c.requires.1, c.loop-i-test.true)
 
 pub returns-then-not-message_is_right : goal.returns-then-not-message_is_right
 returns-then-not-message_is_right c =
     let args = c.args in
     sym
     (and_stop _
-    (sym (all_right _ _ c.requires.1) ∙ every_stop _ _ _ c.loop-i-test.true (test_failed (one_said c.before.before) c.if-not-message_is_right.true-raw)))
+    (sym (all_right _ _ c.requires.0) ∙ every_stop _ _ _ c.loop-i-test.true (test_failed (one_said c.before.before) c.if-not-message_is_right.true-raw)))
 
 pub bounds-f-at : goal.bounds-f-at
 bounds-f-at c = omega (arith, (passed c.before.before).there)
@@ -75,5 +75,5 @@ pub returns : goal.returns
 returns c =
     let args = c.args in
     let loop = c.loop-i in
-    let e = le_antisymm loop.auto.i-end c.loop-i-test.false ∙ c.requires.1 in
-    right_ends args.way args.f.now (sym (all_right _ _ e) ∙ loop.invariant.1) (loop.invariant.0 ∙ ap (start_in args.way.counts.depots args.f.now) e)
+    let e = le_antisymm loop.auto.i-end c.loop-i-test.false ∙ c.requires.0 in
+    right_ends args.way.route args.f.now (sym (all_right _ _ e) ∙ loop.invariant.1) (loop.invariant.0 ∙ ap (start_in args.way.route.counts.depots args.f.now) e)

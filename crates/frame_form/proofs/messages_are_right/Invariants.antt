@@ -10,4 +10,4 @@ use Rattle.frame_form.proofs.messages_are_right.Given as goal
 
 abbrev pub invariant-loop-i : goal.invariant-loop-i
 invariant-loop-i l =
-    (l.at ≡ start_in l.way.counts.depots l.f l.i) × (every l.i (λ j. message_right l.way l.f j (start_in l.way.counts.depots l.f j)) ≡ true) × (l.at ≤ length l.f)
+    (l.at ≡ start_in l.way.route.counts.depots l.f l.i) × (every l.i (λ j. message_right l.way.route l.f j (start_in l.way.route.counts.depots l.f j)) ≡ true) × (l.at ≤ length l.f)

@@ -20,18 +20,18 @@ In-loop-i = lts.In-loop tie.the-claims reads.Pre reads.Post goal.the-invariant-l
 abbrev After-size_of-at : Type 0
 After-size_of-at = lts.After-size_of tie.the-claims reads.Pre reads.Post goal.the-invariant-loop-i goal.the-decreases-loop-i
 
-there : (c : In-loop-i) → let args = c.args in There args.way args.f.now c.loop-i.at
-there c = let pre = c.requires in there_at _ _ c.loop-i.i pre.0 pre.1 (omega (arith, c.loop-i-test.true, pre.2)) c.loop-i.invariant.0
+there : (c : In-loop-i) → let args = c.args in There args.way.route args.f.now c.loop-i.at
+there c = let pre = c.requires in there_at _ _ c.loop-i.i c.args.way.ready pre.0 (omega (arith, c.loop-i-test.true, pre.1)) c.loop-i.invariant.0
 
 size_is :
     (c : After-size_of-at) →
     let args = c.args in c.size_of-at.result
-    ≡ size_of args.way.counts.depots (get_or args.f.now c.loop-i.at 0)
+    ≡ size_of args.way.route.counts.depots (get_or args.f.now c.loop-i.at 0)
 size_is c = c.size_of-at.ensures ∙ ap
-    (size_of c.args.way.counts.depots) c.word_of_byte.ensures
+    (size_of c.args.way.route.counts.depots) c.word_of_byte.ensures
 
 pub loop-i-init : goal.loop-i-init
-loop-i-init c = (start_none _ _ c.requires.2, put_none _ 0 _)
+loop-i-init c = (start_none _ _ c.requires.1, put_none _ 0 _)
 
 pub message_at-m-requires : goal.message_at-m-requires
 message_at-m-requires c = there c.before
@@ -43,9 +43,9 @@ write_words-requires c =
       arith,
       loop.auto.out,
       c.loop-i-test.true,
-      c.requires.3,
+      c.requires.2,
       ap length c.message_at-m.ensures
-          ∙ message_ten c.args.way c.args.f.now loop.at,
+          ∙ message_ten c.args.way.route c.args.f.now loop.at,
     )
 
 pub bounds-f-at : goal.bounds-f-at
@@ -58,11 +58,11 @@ pub loop-i-preserved : goal.loop-i-preserved
 loop-i-preserved c =
     let args = c.args in
     let loop = c.loop-i in
-    let G : ℕ → List ℕ = λ j. message_at args.way args.f.now (start_in args.way.counts.depots args.f.now j) in
+    let G : ℕ → List ℕ = λ j. message_at args.way.route args.f.now (start_in args.way.route.counts.depots args.f.now j) in
     let ten : 10 * loop.i ≡ 0 + length (joined loop.i G) = sym (zero-add _ ∙ joined_long loop.i 10 G (λ j. message_ten _ _ _)) in (
       start_more _ _ _ loop.invariant.0 (size_is c.before),
       put_run _ 0 loop.i G loop.invariant.1 ten (c.message_at-m.ensures ∙ ap
-          (message_at args.way args.f.now) loop.invariant.0) c.write_words.ensures,
+          (message_at args.way.route args.f.now) loop.invariant.0) c.write_words.ensures,
     )
 
 pub returns : goal.returns
@@ -71,5 +71,5 @@ returns c =
     let args = c.args in
     let loop = c.loop-i in
     loop.invariant.1
-    ∙ ap (λ (n : ℕ). put args.out.now 0 (joined n (λ j. message_at args.way args.f.now (start_in args.way.counts.depots args.f.now j))))
-    (le_antisymm loop.auto.i-end c.loop-i-test.false ∙ c.requires.2)
+    ∙ ap (λ (n : ℕ). put args.out.now 0 (joined n (λ j. message_at args.way.route args.f.now (start_in args.way.route.counts.depots args.f.now j))))
+    (le_antisymm loop.auto.i-end c.loop-i-test.false ∙ c.requires.1)

@@ -8,5 +8,5 @@ use Rattle.frame_reader.proofs.hand_out.Given as goal
 
 abbrev pub invariant-loop-i : goal.invariant-loop-i
 invariant-loop-i l =
-    (l.at ≡ start_in l.way.counts.depots l.f l.i)
-    × (l.out ≡ put l.initial.out 0 (joined l.i (λ j. message_at l.way l.f (start_in l.way.counts.depots l.f j))))
+    (l.at ≡ start_in l.way.route.counts.depots l.f l.i)
+    × (l.out ≡ put l.initial.out 0 (joined l.i (λ j. message_at l.way.route l.f (start_in l.way.route.counts.depots l.f j))))

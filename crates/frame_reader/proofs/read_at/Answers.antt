@@ -22,15 +22,17 @@ returns-then-eq c =
     refused_as (Link SameDepot) _ _ _
     (reader_same _ _ _ _ _ _ _ pre.0 pre.1 pre.2 pre.3 (true-eqb _ _ c.if-eq.ensures))
 
-pub counts_of-n-requires : goal.counts_of-n-requires
-counts_of-n-requires c = (base_open _ c.requires.0).full
+pub counts_of-requires : goal.counts_of-requires
+counts_of-requires c = (base_open _ c.requires.0).full
 
-pub read_on-requires : goal.read_on-requires
-read_on-requires c =
+pub invariant_of-read_on : goal.invariant_of-read_on
+invariant_of-read_on c =
     let args = c.args in
     let pre = c.requires in
-    subst (λ (n : Counts). Ready (record { counts = n; shelf = args.s; from = args.from; to = args.d })) (sym c.counts_of-n.ensures)
-    (route_ready _ _ _ _ pre.0 pre.1 pre.2 pre.3)
+    record {
+      ready = subst (λ (n : Counts). Ready (record { counts = n; shelf = args.s; from = args.from; to = args.d })) (sym c.counts_of.ensures)
+          (route_ready _ _ _ _ pre.0 pre.1 pre.2 pre.3);
+    }
 
 pub returns : goal.returns
 returns c =
@@ -43,4 +45,4 @@ returns c =
     outcome_same
     (reader_on _ _ _ _ _ _ _ pre.0 pre.1 pre.2 pre.3 (false-eqb _ _ c.if-eq.ensures))
     (subst (λ (n : Counts). Outcome (first (arrival_rows (way n) args.expected f (length o))) (count_in f) (put o 0 (body_in (way n) f)) o call.result
-    call.new.out) c.counts_of-n.ensures call.ensures)
+    call.new.out) c.counts_of.ensures call.ensures)

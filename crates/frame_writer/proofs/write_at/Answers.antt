@@ -5,14 +5,14 @@ use native.Mathlib.Nat.{lt_of_lt_of_le}
 use native.Mathlib.Omega.{arith}
 use mathlib.Core.Path.{◌≡◌, ◌∙◌, sym, ap, ap₂, subst}
 use mathlib.Core.Bool.{true, false}
-use borrow.Author.Tests.{not-false}
+use borrow.Author.Tests.{not-false, true-eqb, false-eqb}
 use Rattle.loops.proofs.BoolLaws.{test_passed, test_failed, not_passed}
 use Rattle.book.specs.Words.{put}
 use Rattle.book.specs.declared.parts.Counts.{Counts}
 use Rattle.book.specs.Layout.{counts_of, link_of, held, taken}
 use Rattle.fit.specs.Fit.{Within}
 use Rattle.named.specs.Named.{waiting_fit}
-use Rattle.named.proofs.NamedLaws.{Based, base_open, waiting_room}
+use Rattle.named.proofs.NamedLaws.{base_open, waiting_room}
 use Rattle.paper.specs.Answers.{number_of}
 use Rattle.paper.specs.declared.answer.Refusal.TheVariants.{SameDepot, BadBook, EmptyLink}
 use Rattle.frame.specs.declared.FrameRefusal.TheVariants.{Link, NoRoom, BadCount}
@@ -26,12 +26,6 @@ use Rattle.frame_writer.proofs.write_at.Tie as tie
 use Rattle.frame_writer.proofs.write_at.Reads as reads
 
 -- what is known at a place, for the lemmas below
-abbrev Start : Type 0
-Start = lts.Start tie.the-claims reads.Pre reads.Post
-
-abbrev Else-index : Type 0
-Else-index = lts.Else1 tie.the-claims reads.Pre reads.Post
-
 abbrev After-between-q : Type 0
 After-between-q = lts.After-between tie.the-claims reads.Pre reads.Post
 
@@ -56,16 +50,9 @@ Else-not-is_count = lts.Else4 tie.the-claims reads.Pre reads.Post
 abbrev After-size_of_frame-size : Type 0
 After-size_of_frame-size = lts.After-size_of_frame tie.the-claims reads.Pre reads.Post
 
-base : (c : Start) → Based c.args.book.now
-base c = base_open _ c.requires.0
-
--- the two depots differ
-other : (c : Else-index) → let args = c.args in args.d.0 ≡ args.from.0 → ⊥
-other c e = c.if-index.false (c.index.ensures ∙ e ∙ sym c.index-2.ensures)
-
 small : (c : After-between-q) → c.between-q.result.0 < 64
 small c =
-    let w = base c.before.before.before.before.before.before.before in
+    let w = base_open _ c.requires.0 in
     omega (arith, c.between-q.ensures, c.requires.1, c.requires.2, c.requires.3, w.within.depots, w.within.shelves)
 
 link_said : (c : After-waiting_fits) → let args = c.args in c.waiting_fits.result
@@ -130,23 +117,23 @@ size_said c =
     c.counts_of-n.ensures)
     c.between-q.ensures (heads c.before.before.before.before.before).1 c.wide-some.ensures
 
-pub returns-then-index : goal.returns-then-index
+pub returns-then-eq : goal.returns-then-eq
 unfolding frame_number number_of
-returns-then-index c =
+returns-then-eq c =
     let pre = c.requires in
-    refused_as (Link SameDepot) _ _ _ (writer_same _ _ _ _ _ _ pre.0 pre.1 pre.2 pre.3 (sym c.index.ensures ∙ c.if-index.true ∙ c.index-2.ensures))
+    refused_as (Link SameDepot) _ _ _ (writer_same _ _ _ _ _ _ pre.0 pre.1 pre.2 pre.3 (true-eqb _ _ c.if-eq.ensures))
 
 pub counts_of-n-requires : goal.counts_of-n-requires
-counts_of-n-requires c = (base c.before.before.before.before.before.before).full
+counts_of-n-requires c = (base_open _ c.requires.0).full
 
 pub between-q-requires : goal.between-q-requires
 between-q-requires c =
-    let w = base c.before.before.before.before.before.before.before in
+    let w = base_open _ c.requires.0 in
     (lt_of_lt_of_le c.requires.3 w.within.shelves, lt_of_lt_of_le c.requires.2 w.within.depots, lt_of_lt_of_le c.requires.1 w.within.depots)
 
 pub waiting_fits-requires : goal.waiting_fits-requires
 waiting_fits-requires c =
-    let w = base c.before.before.before.before.before.before.before.before in
+    let w = base_open _ c.requires.0 in
     let n : Within c.counts_of-n.result = subst Within (sym c.counts_of-n.ensures) w.within in
     (w.full, n.depots, n.shelf, small c.before)
 
@@ -154,13 +141,13 @@ pub returns-then-not-waiting_fits : goal.returns-then-not-waiting_fits
 unfolding frame_number number_of
 returns-then-not-waiting_fits c =
     let pre = c.requires in
-    refused_as (Link BadBook) _ _ _ (writer_book _ _ _ _ _ _ pre.0 pre.1 pre.2 pre.3 (other c.before.before.before.before.before) (test_failed (link_said c.before.before) c.if-not-waiting_fits.true-raw))
+    refused_as (Link BadBook) _ _ _ (writer_book _ _ _ _ _ _ pre.0 pre.1 pre.2 pre.3 (false-eqb _ _ c.if-eq.ensures) (test_failed (link_said c.before.before) c.if-not-waiting_fits.true-raw))
 
 pub held_of-messages-requires : goal.held_of-messages-requires
-held_of-messages-requires c = ((base c.before.before.before.before.before.before.before.before.before.before).full, small c.before.before.before)
+held_of-messages-requires c = ((base_open _ c.requires.0).full, small c.before.before.before)
 
 pub taken_of-taken-requires : goal.taken_of-taken-requires
-taken_of-taken-requires c = ((base c.before.before.before.before.before.before.before.before.before.before.before).full, small c.before.before.before.before)
+taken_of-taken-requires c = ((base_open _ c.requires.0).full, small c.before.before.before.before)
 
 pub returns-then-messages-taken : goal.returns-then-messages-taken
 unfolding frame_number number_of
@@ -168,7 +155,7 @@ returns-then-messages-taken c =
     let pre = c.requires in
     let h = heads c.before.before in
     refused_as (Link EmptyLink) _ _ _
-    (writer_empty _ _ _ _ _ _ pre.0 pre.1 pre.2 pre.3 (other c.before.before.before.before.before.before.before.before)
+    (writer_empty _ _ _ _ _ _ pre.0 pre.1 pre.2 pre.3 (false-eqb _ _ c.if-eq.ensures)
     (fits c.before.before.before.before) (omega (arith, c.if-messages-taken.true, h.0, h.1)))
 
 pub returns-then-not-is_count : goal.returns-then-not-is_count
@@ -176,12 +163,12 @@ unfolding frame_number
 returns-then-not-is_count c =
     let pre = c.requires in
     refused_as BadCount _ _ _
-    (writer_count _ _ _ _ _ _ pre.0 pre.1 pre.2 pre.3 (other c.before.before.before.before.before.before.before.before.before.before.before)
+    (writer_count _ _ _ _ _ _ pre.0 pre.1 pre.2 pre.3 (false-eqb _ _ c.if-eq.ensures)
     (fits c.before.before.before.before.before.before.before) (more c.before.before.before.before) (not-false _ (test_failed (count_said c.before.before) c.if-not-is_count.true-raw)))
 
 pub size_of_frame-size-requires : goal.size_of_frame-size-requires
 size_of_frame-size-requires c =
-    let w = base c.before.before.before.before.before.before.before.before.before.before.before.before.before.before.before.before in
+    let w = base_open _ c.requires.0 in
     let n : Within c.counts_of-n.result = subst Within
     (sym c.counts_of-n.ensures) w.within in
     (w.full, small c.before.before.before.before.before.before.before.before.before, within c.before, n.depots)
@@ -191,36 +178,39 @@ unfolding frame_number
 returns-then-out-size c =
     let pre = c.requires in
     refused_as NoRoom _ _ _
-    (writer_room _ _ _ _ _ _ pre.0 pre.1 pre.2 pre.3 (other
-    c.before.before.before.before.before.before.before.before.before.before.before.before.before)
+    (writer_room _ _ _ _ _ _ pre.0 pre.1 pre.2 pre.3 (false-eqb _ _ c.if-eq.ensures)
     (fits c.before.before.before.before.before.before.before.before.before) (more c.before.before.before.before.before.before) (good_count c.before.before.before)
     (omega (arith, c.if-out-size.true, size_said c.before.before)))
 
-pub put_frame-requires : goal.put_frame-requires
-put_frame-requires c =
+pub invariant_of-put_frame : goal.invariant_of-put_frame
+invariant_of-put_frame c =
     let args = c.args in
-    let pre = c.requires in (
-      subst (λ (n : Counts). Ready (record { counts = n; shelf = args.s; from = args.from; to = args.d }))
-          (sym c.counts_of-n.ensures) (route_ready _ _ _ _ pre.0 pre.1 pre.2 pre.3),
-      (base c.before.before.before.before.before.before.before.before.before.before.before.before.before.before.before.before.before.before.before).full,
-      small c.before.before.before.before.before.before.before.before.before.before.before.before,
-      within c.before.before.before.before,
-      omega (arith, c.if-out-size.false, c.size_of_frame-size.ensures),
-    )
+    let pre = c.requires in
+    record {
+      ready = subst (λ (n : Counts). Ready (record { counts = n; shelf = args.s; from = args.from; to = args.d })) (sym c.counts_of-n.ensures)
+          (route_ready _ _ _ _ pre.0 pre.1 pre.2 pre.3);
+    }
+
+pub put_frame-requires : goal.put_frame-requires
+put_frame-requires c = (
+  (base_open _ c.requires.0).full,
+  small c.before.before.before.before.before.before.before.before.before.before.before.before.before,
+  within c.before.before.before.before.before,
+  omega (arith, c.if-out-size.false, c.size_of_frame-size.ensures),
+)
 
 pub returns : goal.returns
 returns c =
     let args = c.args in
     let pre = c.requires in
     done_as
-    (writer_good _ _ _ _ _ _ pre.0 pre.1 pre.2 pre.3 (other
-    c.before.before.before.before.before.before.before.before.before.before.before.before.before.before.before.before.before)
-    (fits c.before.before.before.before.before.before.before.before.before.before.before.before.before)
-    (more c.before.before.before.before.before.before.before.before.before.before) (good_count c.before.before.before.before.before.before.before)
-    (omega (arith, c.if-out-size.false, size_said c.before.before.before.before.before.before)))
-    (size_said c.before.before.before.before.before.before)
+    (writer_good _ _ _ _ _ _ pre.0 pre.1 pre.2 pre.3 (false-eqb _ _ c.if-eq.ensures)
+    (fits c.before.before.before.before.before.before.before.before.before.before.before.before.before.before)
+    (more c.before.before.before.before.before.before.before.before.before.before.before) (good_count c.before.before.before.before.before.before.before.before)
+    (omega (arith, c.if-out-size.false, size_said c.before.before.before.before.before.before.before)))
+    (size_said c.before.before.before.before.before.before.before)
     (c.put_frame.ensures
     ∙ ap (put args.out.now 0) (frame_same args.book.now args.s.0 args.from.0 args.d.0 args.serial
     c.counts_of-n.ensures
     c.between-q.ensures
-    (heads c.before.before.before.before.before.before.before.before.before.before.before).1 c.wide-some.ensures))
+    (heads c.before.before.before.before.before.before.before.before.before.before.before.before).1 c.wide-some.ensures))
