@@ -1,7 +1,7 @@
 -- From the first entry that a search finds, over the table of pasts, to what is found.
 -- Assumes nothing.
-use Prim.Native.Nat.{ℕ, ◌≤◌, ◌<◌}
-use native.Mathlib.Nat.{lt_of_lt_of_le, lt_irrefl}
+use Prim.Native.Nat.{ℕ, ◌<◌}
+use native.Mathlib.Nat.{lt_irrefl}
 use native.Mathlib.Omega.{arith}
 use mathlib.Core.Path.{◌≡◌, refl}
 use mathlib.Core.Bool.{Bool, true}
@@ -14,24 +14,9 @@ use Rattle.chains.proofs.Closing.{chain_to, chain_down}
 use Rattle.entries.specs.Entries.{entries}
 use Rattle.entries.specs.Rests.{rests_on, Past, LowRead, lower_than}
 use Rattle.auditor.specs.Verdict.{bad, Bad, Names, first, none, Judged}
-use Rattle.auditor.specs.Judging.{Search, under, low}
+use Rattle.auditor.specs.Judging.{under, low}
 use Rattle.auditor.specs.declared.finding.Finding.{Finding}
 use Rattle.auditor.specs.declared.finding.Finding.TheVariants.{Refused, Circle, Low, Causal}
-
--- a search that stops, and one that goes to the end
-pub search_found : {n : ℕ} (P : ℕ → Type 0) (i : ℕ) → i < n → P i → ((j : ℕ) → j < i → P j → ⊥) → Search n P i
-search_found P i l h f = record { within = omega arith; here = λ m. h; before = f }
-
-pub search_end : {n : ℕ} (P : ℕ → Type 0) (i : ℕ) → i ≡ n → ((j : ℕ) → j < i → P j → ⊥) → Search n P i
-search_end P i e f = record { within = omega arith; here = λ l. absurd (omega arith); before = f }
-
--- what a search for P says of Q, if they are the same
-module _ {n : ℕ} {P Q : ℕ → Type 0} {r : ℕ} (s : Search n P r) (to : (j : ℕ) → j < n → P j → Q j) (from : (j : ℕ) → j < n → Q j → P j) where
-  pub named : {A : Type 0} {f : ℕ → A} {Rest : A → Type 0} → r < n → Names n Q f Rest (f r)
-  named l = first (record { below = l; here = to r l (s.here l); before = λ j m q. s.before j m (from j (lt_of_lt_of_le m s.within) q) })
-
-  pub unnamed : {A : Type 0} {f : ℕ → A} {Rest : A → Type 0} {g : A} → n ≤ r → Rest g → Names n Q f Rest g
-  unnamed l rest = none (λ j m q. s.before j (lt_of_lt_of_le m l) (from j m q)) rest
 
 -- what the first place that passes p says of Q, if p is the test of Q, and what it says that no place passes
 module _ {n m : ℕ} (count : n ≡ m) {p : ℕ → Bool} {Q : ℕ → Type 0} (to : (j : ℕ) → j < m → p j ≡ true → Q j) (from : (j : ℕ) → j < m → Q j → p j ≡ true) where

@@ -1,6 +1,6 @@
 -- How the auditor goes about it: what is looked for.
 -- Assumes nothing.
-use Rattle.std.specs.Prelude.{ℕ, ◌≡◌, ◌≤◌, ◌<◌, Bool, ◌&&◌, List}
+use Rattle.std.specs.Prelude.{ℕ, ◌≡◌, ◌<◌, Bool, ◌&&◌, List}
 use Rattle.chains.specs.Chain.{Grid, some}
 use Rattle.entries.specs.Entries.{entries}
 use Rattle.entries.specs.Rests.{lower_than}
@@ -17,9 +17,3 @@ under h G i j = G i j && lower_than h i j
 -- entry i is a read lower than an entry in its past
 unfoldable pub low : List ℕ → Grid → ℕ → Bool
 low h G i = some (entries h) (under h G i)
-
--- r is the first of the n entries of which P is so, or n where there is none
-pub record Search (n : ℕ) (P : ℕ → Type 0) (r : ℕ) : Type 0 where
-  pub within : r ≤ n
-  pub here : r < n → P r
-  pub before : (j : ℕ) → j < r → P j → ⊥

@@ -1,5 +1,5 @@
 // Dates that exist, their day numbers, and the dates that follow an anchor in steps of months. Day 0 is 1 January 2000.
-ghost use Rattle.std.specs.Prelude.{◌≡◌, true, ◌≤◌, ◌<◌};
+ghost use Rattle.std.specs.Prelude.{◌≡◌, true, ◌≤◌, ◌<◌, Ok};
 ghost use Rattle.months.specs.Months.{months, Starts};
 ghost use Rattle.paper.specs.Calls.{last_day};
 ghost use Rattle.calendar.specs.Dates.{is_date, month_index, date_in, month_on, day_number_answer, date_answer};
@@ -83,16 +83,16 @@ pub fn date_of(day: u32) -> Result<Dated, DateRefusal>
 }
 
 // A day of a month that is counted from January 2000 as 0, or the month's last day where the month is shorter, with its day number.
-fn within(month: u32, day: u32) -> Result<Dated, DateRefusal>
+fn within(month: u32, day: u32) -> Dated
     requires { (month < months) × (1 ≤ day) }
-    ensures { result ≡ numbered (date_in month (day_within month day)) }
+    ensures { Ok result ≡ numbered (date_in month (day_within month day)) }
 {
     let last = days_in_month(FIRST_YEAR + month / 12, month % 12 + 1);
     let there = day.min(last);
-    Ok(Dated {
+    Dated {
         date: date_in(month, there),
         number: month_start(month) + (there - 1),
-    })
+    }
 }
 
 // Whether dates may follow each other in steps of so many months.
@@ -120,5 +120,5 @@ pub fn next_date(year: u32, month: u32, day: u32, step: u32, n: u32) -> Result<D
     if MONTHS as u64 <= far {
         return Err(DateRefusal::TooLate);
     }
-    within(far as u32, day)
+    Ok(within(far as u32, day))
 }

@@ -9,12 +9,10 @@ use frame::FrameRefusal;
 use frame_reader::read_frame;
 use frame_writer::write_frame;
 use paper::number::number_of;
+use room::NO_ROOM;
 
 // The words that what is told takes.
 pub const TOLD_WORDS: usize = 1;
-
-// The number of a buffer too short.
-pub const NO_ROOM: u32 = 100;
 
 // The number of a refusal.
 #[tactic(auto, unfolding(frame::specs::Promises::frame_number))]

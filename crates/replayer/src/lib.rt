@@ -37,21 +37,11 @@ struct Extent {
     numbers: usize,
 }
 
-// A byte as a number.
-fn word_of_byte(b: u8) -> u32
-    ensures { result ≡ b }
-{
-    b as u32
-}
-
 // The byte that counts, 0 where it is not there.
 fn count_in(bytes: &[u8]) -> usize
     ensures { (result ≡ get_or bytes.now 1 0) × (result ≤ 255) }
 {
-    if bytes.len() < 2 {
-        return 0;
-    }
-    wide_byte(bytes[1])
+    bytes.get(1).map_or(0, |&count| wide_byte(count))
 }
 
 // The extent of a record of a kind, as far as its bytes say.
@@ -88,7 +78,7 @@ pub fn next_record(book: &mut [u32], bytes: &[u8], numbers: &mut [u32]) -> Next
     requires { (0 < length bytes.now) × (most_numbers ≤ length numbers.old) }
     ensures { Turn book.old bytes.now result book.new }
 {
-    let Some(kind) = kind_of(word_of_byte(bytes[0])) else {
+    let Some(kind) = kind_of(u32::from(bytes[0])) else {
         return Next {
             end: BAD_RECORD,
             size: 0,

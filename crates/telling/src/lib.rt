@@ -24,8 +24,6 @@ const WRITE_WORDS: usize = 2;
 
 const GRAMS_WORDS: usize = 2;
 
-const BAD_CARD: u32 = 14;
-
 // The words of what a read tells.
 pub fn reading_words(reading: Reading) -> [u32; READ_WORDS]
     ensures { Holds (paper_read (Ok reading)) reading.vector reading.depots → result ≡ words_of (paper_read (Ok reading)) }
@@ -130,7 +128,7 @@ pub fn tell_grams(diameter: u32, width: u32, out: &mut [u32]) -> u32
         return NO_ROOM;
     }
     let Some(bits) = grams(diameter, width) else {
-        return BAD_CARD;
+        return number_of(Refusal::BadCard);
     };
     fill(out, &[low_word(bits), high_word(bits)]);
     0

@@ -14,7 +14,7 @@ pub returns-in_default : goal.returns-in_default
 returns-in_default c =
     let args = c.args in
     no_kind
-    (names_nothing (get_or args.bytes.now 0 0) c.word_of_byte.ensures c.kind_of.ensures c.in_default.is) refl refl
+    (names_nothing (get_or args.bytes.now 0 0) c.from.ensures c.kind_of.ensures c.in_default.is) refl refl
 
 pub overflow_add-size : goal.overflow_add-size
 overflow_add-size c =
@@ -27,7 +27,7 @@ returns-then-bytes-size c =
     let f = c.args.bytes.now in
     let extent = c.extent_of-extent.ensures in
     too_few
-    (names_kind (get_or f 0 0) c.word_of_byte.ensures c.kind_of.ensures c.in-Some.is)
+    (names_kind (get_or f 0 0) c.from.ensures c.kind_of.ensures c.in-Some.is)
     (subst (λ (n : ℕ). length f < n) (size_is f c.in-Some.kind extent.0 extent.1) c.if-bytes-size.true) refl refl
 
 pub slice_bounds-read_words-end-2 : goal.slice_bounds-read_words-end-2
@@ -55,6 +55,6 @@ returns c =
     let extent = c.extent_of-extent.ensures in
     let asked = asks f k extent.0 extent.1 _ _ (omega (arith, extent.2, c.requires.1)) c.read_words.ensures in
     let size = size_is f k extent.0 extent.1 in
-    a_record (names_kind (get_or f 0 0) c.word_of_byte.ensures c.kind_of.ensures c.in-Some.is)
+    a_record (names_kind (get_or f 0 0) c.from.ensures c.kind_of.ensures c.in-Some.is)
     (subst (λ (n : ℕ). n ≤ length f) size c.if-bytes-size.false) (c.replayed-end.ensures.value ∙ ap (number_at l) asked) size
     (c.replayed-end.ensures.book_after ∙ ap (book_after l) asked)

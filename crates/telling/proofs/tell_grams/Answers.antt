@@ -4,6 +4,7 @@ use Prim.Native.Nat.{ℕ}
 use mathlib.Core.Path.{sym, ◌∙◌, ap, ap₂}
 use mathlib.Core.List.{[], ◌∷◌}
 use Rattle.std.specs.Prelude.{Option}
+use Rattle.paper.specs.Answers.{number_of}
 use Rattle.card.specs.Card.{grams_number}
 use Rattle.room.specs.Room.{filled}
 use Rattle.room.proofs.RoomLaws.{with_room, no_room_law, filled_none}
@@ -18,13 +19,13 @@ returns-then-out-lt-GRAMS_WORDS c = let short = c.if-out-lt-GRAMS_WORDS.true in
     }
 
 pub returns-in_default : goal.returns-in_default
-unfolding grams_number grams_out
+unfolding number_of grams_number grams_out
 returns-in_default c =
     let wide = c.if-out-lt-GRAMS_WORDS.false in
     let none = sym c.in_default.is ∙ c.grams.ensures in
     let out = c.args.out.now in
     record {
-      value = ap grams_number none ∙ with_room _ _ _ _ wide;
+      value = c.number_of.ensures ∙ ap grams_number none ∙ with_room _ _ _ _ wide;
       out_after = filled_none _ ∙ ap (λ (a : Option ℕ). filled (grams_out a) out) none ∙ with_room _ _ _ _ wide;
     }
 
