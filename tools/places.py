@@ -84,7 +84,7 @@ POINTS = {
     "4f": ("functions that compare, choose or convert by hand", lambda: matches(r"fn (same\w*|is_same|larger|smaller|wide\w*|word|word_of\w*|half_of|low|\w*number_of|number_in|refusal_number|frame_number|byte_of|kind_of)\b")),
     "5": ("facts that stand in three and more contracts", clauses),
     "6": ("fields that are arrays, and outputs with a place beside them", lambda: matches(r"^ +pub \w+: \[u\d+; .*$|out: &mut \[u8\],\s+at: usize")),
-    "7": ("switches on which step to run: enums that name a step", lambda: matches(r"^(?:pub )?enum (Sought|Fault) \{$")),
+    "7": ("enums that name a step to run", lambda: [place for place in matches(r"^(?:pub )?enum (Sought|Fault) \{$") if "auditor" in place]),
 }
 
 if len(sys.argv) > 1:

@@ -7,7 +7,7 @@ ghost use Rattle.named.specs.Named.{base_fit};
 ghost use Rattle.register.specs.Promises.{Take};
 
 use book::layout::Link;
-use book::numbers::{Depot, Numbered, Shelf};
+use book::numbers::{Depot, Shelf};
 use book::parts::{counts_of, held_of, taken_of};
 use named_link::take_parts_fit;
 use paper::answer::Refusal;
