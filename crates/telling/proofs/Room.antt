@@ -13,7 +13,7 @@ use Rattle.loops.specs.Loops.{pick}
 use Rattle.paper.specs.declared.answer.Payload.{Payload}
 use Rattle.paper.specs.Calls.{Answer, refused, reads, Told, read_value, read_unwritten, read, write, answer_by}
 use Rattle.paper.specs.Answers.{padded}
-use Rattle.register.specs.Answers.{told, written}
+use Rattle.register.specs.Answers.{written}
 use Rattle.upkeep.specs.Requests.{call, reply_to, done_answer, number_at}
 use Rattle.room.specs.Room.{filled}
 use Rattle.room.proofs.RoomLaws.{filled_whole}

@@ -17,7 +17,8 @@ overflow_add-at-in-loop-i c =
     let args = c.args in
     let loop = c.loop-i in
     let g : ℕ → mathlib.Core.List.List ℕ = λ j. slot args.book.now args.q.0 (args.taken + j) in
-    let next : loop.at + c.size_of-at.result ≡ place_of args.depots args.count g (loop.i + 1) = place_more _ _ g _ loop.invariant (c.size_of-at.ensures ∙ ap (size_of c.args.depots) (kind_there _ _ _ c.slot_at.ensures)) in
+    let next : loop.at + c.size_of-at.result ≡ place_of args.depots args.count g (loop.i + 1) =
+    place_more _ _ g _ loop.invariant (c.size_of-at.ensures ∙ ap (size_of c.args.depots) (kind_there _ _ _ c.slot_at.ensures)) in
     omega (
       arith,
       next,

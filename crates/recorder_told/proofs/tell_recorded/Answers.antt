@@ -17,7 +17,9 @@ returns-in_default c = no_kind _ _ _ _ _ c.kind_of.ensures c.in_default.is ∙ w
 
 pub returns-then-not-has_numbers : goal.returns-then-not-has_numbers
 unfolding left_by
-returns-then-not-has_numbers c = no_numbers _ _ _ _ _ c.kind_of.ensures c.in-Some.is (test_failed c.has_numbers.ensures c.if-not-has_numbers.true-raw) ∙ with_room _ _ _ _ c.if-out-lt-RECORDED_WORDS.false
+returns-then-not-has_numbers c =
+    no_numbers _ _ _ _ _ c.kind_of.ensures c.in-Some.is (test_failed c.has_numbers.ensures c.if-not-has_numbers.true-raw)
+    ∙ with_room _ _ _ _ c.if-out-lt-RECORDED_WORDS.false
 
 pub tell_call-requires : goal.tell_call-requires
 tell_call-requires c = (kind_own _ _ (test_passed c.has_numbers.ensures c.if-not-has_numbers.false-raw), c.if-out-lt-RECORDED_WORDS.false)
