@@ -2,9 +2,9 @@
 // all, before the book is looked at.
 #![tactic(auto)]
 
-ghost use Rattle.std.specs.Prelude.{◌≡◌, ◌/◌, ◌%◌, Ok, IfOk};
-ghost use Rattle.paper.specs.Calls.{read, write, number_in};
-ghost use Rattle.paper.specs.Answers.{paper_read, paper_write, Holds};
+ghost use Rattle.std.specs.Prelude.{◌≡◌, ◌/◌, ◌%◌, Ok, IfOk, MatchOption};
+ghost use Rattle.paper.specs.Calls.{read, write, number_in, read_unwritten, read_value};
+ghost use Rattle.paper.specs.Answers.{paper_read, paper_write, Holds, told_words};
 ghost use Rattle.upkeep.specs.Requests.{call, number_at, reply_to, book_after};
 ghost use Rattle.card.specs.Card.{grams_answer, grams_number};
 ghost use Rattle.room.specs.Room.{no_room, in_room, filled};
@@ -26,7 +26,8 @@ const GRAMS_WORDS: usize = 2;
 
 // The words of what a read tells.
 pub fn reading_words(reading: Reading) -> [u32; READ_WORDS]
-    ensures { Holds (paper_read (Ok reading)) reading.vector reading.depots → result ≡ words_of (paper_read (Ok reading)) }
+    ensures told { MatchOption reading.payload (result ≡ told_words (read_unwritten reading.vector)) (λ p. result ≡ told_words (read_value p reading.vector)) }
+    ensures words { Holds (paper_read (Ok reading)) reading.vector reading.depots → result ≡ words_of (paper_read (Ok reading)) }
 {
     let v = reading.vector;
     match reading.payload {

@@ -14,7 +14,7 @@ returns-in-Done c = no_words (known_done c.in-Ok.is c.in-Done.is) refl
 
 pub returns-in-Read : goal.returns-in-Read
 unfolding on_paper paper_reply Carries
-returns-in-Read c = words_as (known_done c.in-Ok.is c.in-Read.is) c.fill.ensures (c.reading_words.ensures (carried (known_done c.in-Ok.is c.in-Read.is) c.requires))
+returns-in-Read c = words_as (known_done c.in-Ok.is c.in-Read.is) c.fill.ensures (c.reading_words.ensures.words (carried (known_done c.in-Ok.is c.in-Read.is) c.requires))
 
 pub returns-in-Written : goal.returns-in-Written
 unfolding on_paper paper_reply

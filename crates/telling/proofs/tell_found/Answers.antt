@@ -14,7 +14,7 @@ use Rattle.telling.proofs.tell_found.Goals as goal
 pub returns-in-Ok : goal.returns-in-Ok
 returns-in-Ok c =
     let holds = subst (λ (x : Result Reading Refusal). IfOk x (λ a. Holds (paper_read x) a.vector a.depots)) c.in-Ok.is c.requires in
-    let told = told_as _ (sym (ap paper_read c.in-Ok.is)) (read_number c.in-Ok.reading) (c.reading_words.ensures holds) c.fill.ensures in
+    let told = told_as _ (sym (ap paper_read c.in-Ok.is)) (read_number c.in-Ok.reading) (c.reading_words.ensures.words holds) c.fill.ensures in
     record { value = told.0; out_after = told.1 }
 
 pub returns-in-Err : goal.returns-in-Err
