@@ -32,7 +32,7 @@ fn is_same(h: &[u32], p: usize, q: usize, n: usize) -> bool
     requires { (p + n ≤ length h.now) × (q + n ≤ length h.now) }
     ensures { result ≡ agree n (vector_at h.now p) (vector_at h.now q) }
 {
-    h[p..p + n] == h[q..q + n]
+    (0..n).all(|x| h[p + x] == h[q + x])
 }
 
 // Whether entry j is a write of the version that entry i has.

@@ -1,8 +1,12 @@
--- `entries::beside::is_same` meets its contract. Two runs of words are the same if each word is.
+-- `entries::beside::is_same` meets its contract.
 -- Assumes nothing.
-use mathlib.Core.Path.{◌∙◌}
-use Rattle.entries.proofs.EntryLaws.{agree_runs}
+use mathlib.Core.Path.{refl}
+use borrow.Author.Rules.{rules}
+use borrow.Author.Tests.{tests}
+use Rattle.loops.proofs.ChainLaws.{every_from_all}
+use Rattle.order.specs.Vector.{agree}
 use Rattle.entries.proofs.beside.is_same.Goals as goal
 
 pub returns : goal.returns
-returns c = let args = c.args in c.eq.ensures ∙ agree_runs args.h.now args.p args.q args.n c.requires.0 c.requires.1
+unfolding agree
+returns c = every_from_all c.args.n _ c.all.result c.all.ensures.ran refl (λ x b q k. search (rules, tests))
