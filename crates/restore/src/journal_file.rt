@@ -19,13 +19,15 @@ const WHOLE: u32 = 0;
 // After so many bytes more a person who waits is told how far recovery has come.
 const TOLD_BYTES: usize = 16777216;
 
-// What has come of a journal so far: how many records were done, how many bytes they have, how many bytes were read behind those, and how recovery ended.
+// What has come of a journal so far: how many records were done, how many bytes they have, how many bytes were read behind those, how recovery ended, and why the file could not be read,
+// where it could not.
 #[derive(Clone, Copy)]
 pub struct Restored {
     pub done: usize,
     pub bytes: usize,
     pub rest: usize,
     pub end: u32,
+    pub failure: Option<io::Error>,
 }
 
 // The records that the bytes begin with are done on the book.
@@ -56,6 +58,7 @@ fn counted_on(so_far: Restored, told: Recovered, count: usize) -> Restored {
         bytes: so_far.bytes.wrapping_add(told.bytes),
         rest: count.wrapping_sub(told.bytes),
         end: told.end,
+        failure: None,
     }
 }
 
@@ -92,35 +95,45 @@ fn recover_all<F: Read + Seek>(
     journal: &mut F,
     book: &mut [u32],
     buffer: &mut [u8],
-) -> io::Result<Restored>
+    so_far: &mut Restored,
+) -> io::Result<()>
     requires { Began book.old }
     ensures { Began book.new }
 {
+    'buffers: for _ in 0..u64::MAX {
+        if !recover_more(notes, journal, book, buffer, so_far)? {
+            break 'buffers;
+        }
+    }
+    Ok(())
+}
+
+// The book becomes that after the records of an open journal, any bytes. What came of it, also where the file could not be read to its end.
+pub fn recover_file<F: Read + Seek>(
+    notes: &(impl Print + IsTerminal),
+    journal: &mut F,
+    book: &mut [u32],
+) -> Restored
+    requires { Began book.old }
+    ensures { Began book.new }
+{
+    let mut buffer = [0u8; BUFFER_BYTES];
     let mut so_far = Restored {
         done: 0,
         bytes: 0,
         rest: 0,
         end: WHOLE,
+        failure: None,
     };
-    'buffers: for _ in 0..u64::MAX {
-        if !recover_more(notes, journal, book, buffer, &mut so_far)? {
-            break 'buffers;
-        }
+    match recover_all(notes, journal, book, &mut buffer, &mut so_far) {
+        Ok(()) => so_far,
+        Err(error) => Restored {
+            rest: 0,
+            end: WHOLE,
+            failure: Some(error),
+            ..so_far
+        },
     }
-    Ok(so_far)
-}
-
-// The book becomes that after the records of an open journal, any bytes. What came of it, or why the file could not be read.
-pub fn recover_file<F: Read + Seek>(
-    notes: &(impl Print + IsTerminal),
-    journal: &mut F,
-    book: &mut [u32],
-) -> io::Result<Restored>
-    requires { Began book.old }
-    ensures { Began book.new }
-{
-    let mut buffer = [0u8; BUFFER_BYTES];
-    recover_all(notes, journal, book, &mut buffer)
 }
 
 // A line on the record that recovery stopped at.
@@ -166,6 +179,10 @@ pub fn is_sound<F: Seek>(
     journal: &mut F,
     restored: Restored,
 ) -> bool {
+    if let Some(error) = restored.failure {
+        tell_failure(notes, path, &error);
+        return false;
+    }
     let end = restored.end;
     if end == WHOLE || end == CUT && restored.rest < RECORD_ROOM {
         return is_all(notes, path, journal, restored);
@@ -184,11 +201,6 @@ pub fn recover_sound<F: Read + Seek>(
     requires { Began book.old }
     ensures { Began book.new }
 {
-    match recover_file(notes, journal, book) {
-        Ok(restored) => is_sound(notes, path, journal, restored).then_some(restored),
-        Err(error) => {
-            tell_failure(notes, path, &error);
-            None
-        }
-    }
+    let restored = recover_file(notes, journal, book);
+    is_sound(notes, path, journal, restored).then_some(restored)
 }
