@@ -9,7 +9,9 @@ use frame::FrameRefusal;
 use frame_reader::read_frame;
 use frame_writer::write_frame;
 use paper::number::number_of;
-use room::NO_ROOM;
+
+// The number of a buffer too short.
+pub use room::NO_ROOM;
 
 // The words that what is told takes.
 pub const TOLD_WORDS: usize = 1;
