@@ -28,6 +28,13 @@ Replies r a = (on_paper r ≡ a) × Carries (on_paper r) r
 abbrev Mapped : {A : Type 0} → (A → Reply) → Result A Refusal → Result Reply Refusal → Type 0
 Mapped k a r = MatchResult a (λ x. IsOkAnd r (λ y. y ≡ k x)) (λ e. r ≡ Err e)
 
+-- the same, of what is known of each reply that is made
+pub mapped : {A : Type 0} {k : A → Reply} {Q : A → Reply → Type 0} (a : Result A Refusal) (r : Result Reply Refusal)
+    → MatchResult a (λ x. IsOkAnd r (Q x)) (λ e. r ≡ Err e) → ((x : A) (y : Reply) → Q x y → y ≡ k x) → Mapped k a r
+mapped (Ok x) (Ok y) p h = h x y p
+mapped (Ok x) (Err e) p h = absurd p
+mapped (Err e) r p h = p
+
 same_reply : {r s : Result Reply Refusal} {a : Answer} → r ≡ s → Replies s a → Replies r a
 same_reply {a = a} e h = subst (λ (x : Result Reply Refusal). Replies x a) (sym e) h
 

@@ -1,7 +1,8 @@
 -- `calls::perform::perform` meets its contract: the promise of the call that the request names settles reply and book.
 -- Assumes nothing.
+use borrow.Author.Rules.{rules}
 use Rattle.upkeep.specs.Requests.{setting_up, did_read, did_write, ticked, took, refreshed, moved, did_list}
-use Rattle.calls.proofs.ReplyLaws.{read_reply, write_reply, list_reply, performed}
+use Rattle.calls.proofs.ReplyLaws.{read_reply, write_reply, list_reply, mapped, performed}
 use Rattle.calls.proofs.perform.perform.Goals as goal
 
 pub returns-in-Setup : goal.returns-in-Setup
@@ -49,5 +50,5 @@ returns-in-Move c =
 pub returns-in-List : goal.returns-in-List
 returns-in-List c =
     let promise = c.list.ensures in
-    let reply = list_reply _ _ c.map-in-List.ensures.cases promise.holds in
+    let reply = list_reply _ _ (mapped _ _ c.map-in-List.ensures.cases (λ x y k. search rules)) promise.holds in
     performed _ c.in-List.is (did_list promise) reply.0 reply.1
