@@ -2,13 +2,16 @@
 -- Assumes nothing.
 use Prim.Native.Nat.{ℕ, ◌+◌, ◌≤◌, ◌<◌}
 use native.Mathlib.Omega.{arith}
-use mathlib.Core.Path.{◌≡◌, refl, sym, ◌∙◌, ap, ap₂}
-use mathlib.Core.Bool.{Bool, true, false, ◌&&◌, not, false≢true}
+use mathlib.Core.Path.{◌≡◌, refl, sym, ◌∙◌, ap, ap₂, subst}
+use mathlib.Core.Bool.{Bool, true, false, not, false≢true}
 use mathlib.Core.List.{List, [], ◌∷◌}
 use lib.Dec.{eqb}
-use lib.ListN.{length}
+use lib.ListN.{length, get_or}
 use borrow.Author.Tests.{eqb-true, eq-eqb, ne_eqb, lt-ltb, le-ltb}
-use Rattle.loops.proofs.BoolLaws.{pick_true, pick_false, and_left, and_right, and_intro, and_next, and_stop, not_failed}
+use Rattle.std.proofs.lemmas.Grind.{same_number_lists}
+use Rattle.loops.specs.Loops.{every}
+use Rattle.loops.proofs.LoopLaws.{every_at, every_intro}
+use Rattle.loops.proofs.BoolLaws.{pick_true, pick_false, and_left, and_right, and_intro, and_next, and_stop, not_failed, together}
 use Rattle.paper.specs.Calls.{here, later, otherwise}
 use Rattle.book.specs.Words.{put}
 use Rattle.book.specs.Layout.{book_words}
@@ -19,7 +22,6 @@ use Rattle.wire.proofs.WireLaws.{put_append}
 use Rattle.numbers.specs.Numbers.{bytes_of, words_at}
 use Rattle.numbers.proofs.NumberLaws.{length_bytes, bytes_append}
 use Rattle.numbers.proofs.OneByOne.{put_whole}
-use lib.Pointwise.{pointwise}
 use Rattle.image.specs.Image.{image_bytes, bad_image, image_head, image_of, book_in, same, head_right, save_number, load_number, saved, loaded, Saving, Loading}
 
 -- ---- a header, and numbers that are the same
@@ -45,13 +47,14 @@ unfolding same
 same_self [] = refl
 same_self (a ∷ u) = and_intro (eq-eqb a a refl) (same_self u)
 
--- the library's comparison of two runs
-pub same_pairs : (u v : List ℕ) → pointwise eqb u v ≡ same u v
-unfolding same
-same_pairs [] [] = refl
-same_pairs [] (b ∷ v) = refl
-same_pairs (a ∷ u) [] = refl
-same_pairs (a ∷ u) (b ∷ v) = ap (λ (x : Bool). eqb a b && x) (same_pairs u v)
+-- place by place
+pub same_places : (n : ℕ) (u v : List ℕ) → length u ≡ n → length v ≡ n → every n (λ i. eqb (get_or u i 0) (get_or v i 0)) ≡ same u v
+same_places n u v p q =
+    together _ _
+    (λ h.
+    let e : u ≡ v = same_number_lists u v (p ∙ sym q) (λ k l. eqb-true _ _ (every_at n _ h k (subst (λ (m : ℕ). k < m) p l))) in
+    subst (λ (x : List ℕ). same u x ≡ true) e (same_self u))
+    (λ h. every_intro n _ (λ i l. eq-eqb _ _ (ap (λ (x : List ℕ). get_or x i 0) (same_is u v h))))
 
 -- ---- what saving answers
 

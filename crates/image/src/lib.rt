@@ -78,7 +78,8 @@ fn head_is(image: &[u8], book: &[u32]) -> bool
 {
     let mut head = [0u32; HEAD_WORDS];
     read_words(image, 0, &mut head);
-    head == head_of(book)
+    let right = head_of(book);
+    (0..HEAD_WORDS).all(|i| head[i] == right[i])
 }
 
 // The image of a book stands in the buffer from its first byte on. Refuses, in this order: BAD BOOK, NO ROOM.

@@ -33,8 +33,8 @@ pub fn print_numbers(out: &mut [u8], at: usize, numbers: &[u32], count: usize) -
     ensures { Wrote out.old at (spaced (take count numbers.now)) out.new result }
 {
     let mut next = at;
-    for number in &numbers[..count] {
-        next = print_spaced(out, next, *number);
+    for i in 0..count {
+        next = print_spaced(out, next, numbers[i]);
     }
     next
 }

@@ -51,8 +51,8 @@ fn feed(book: &mut [u32], line: &mut [u8], piece: &[u8], out: &mut [u8], log: &m
     ensures wrote_2 { Wrote log.old 0 (gives_through record_to book.old (line_in line.old) piece.now) log.new result.log }
 {
     let mut next = Places { out: 0, log: 0 };
-    for byte in piece {
-        next = feed_byte(book, line, *byte, out, log, next);
+    for i in 0..piece.len() {
+        next = feed_byte(book, line, piece[i], out, log, next);
     }
     next
 }

@@ -6,8 +6,8 @@ use Rattle.stream.specs.Stream.{line_in}
 use Rattle.stream.proofs.StreamLaws.{Fed, Given}
 use Rattle.stream.proofs.feed.Given as goal
 
-abbrev pub invariant-loop-byte : goal.invariant-loop-byte
-invariant-loop-byte l =
-    Fed l.initial.book (line_in l.initial.line) l.piece l.book l.line l.byte-index
-    × Given answer_to answer_room l.initial.book (line_in l.initial.line) l.piece l.initial.out l.out l.next.out l.byte-index
-    × Given record_to record_room l.initial.book (line_in l.initial.line) l.piece l.initial.log l.log l.next.log l.byte-index
+abbrev pub invariant-loop-i : goal.invariant-loop-i
+invariant-loop-i l =
+    Fed l.initial.book (line_in l.initial.line) l.piece l.book l.line l.i
+    × Given answer_to answer_room l.initial.book (line_in l.initial.line) l.piece l.initial.out l.out l.next.out l.i
+    × Given record_to record_room l.initial.book (line_in l.initial.line) l.piece l.initial.log l.log l.next.log l.i

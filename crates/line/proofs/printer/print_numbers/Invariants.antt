@@ -5,5 +5,5 @@ use Rattle.line.specs.Grammar.{spaced}
 use Rattle.line.specs.Printing.{Wrote}
 use Rattle.line.proofs.printer.print_numbers.Given as goal
 
-abbrev pub invariant-loop-number : goal.invariant-loop-number
-invariant-loop-number l = Wrote l.initial.out l.at (spaced (take l.number-index l.numbers)) l.out l.next
+abbrev pub invariant-loop-i : goal.invariant-loop-i
+invariant-loop-i l = Wrote l.initial.out l.at (spaced (take l.i l.numbers)) l.out l.next
