@@ -2,6 +2,7 @@
 -- Assumes nothing.
 use native.Mathlib.Nat.{add-zero}
 use mathlib.Core.Path.{refl, sym}
+use borrow.Author.Rules.{rules}
 use Rattle.links.specs.Send.{lowest_seen}
 use Rattle.lowest.proofs.LowestCode.{lowest_none, lowest_more, lowest_told, four_same}
 use Rattle.lowest.proofs.lowest_seen.Goals as goal
@@ -12,10 +13,10 @@ loop-s-init c = (lowest_none _ _ _, lowest_none _ _ _, lowest_none _ _ _, lowest
 pub loop-s-preserved : goal.loop-s-preserved
 loop-s-preserved c =
     let loop = c.loop-s in (
-      lowest_more _ _ _ _ loop.invariant.0 c.min-first.ensures (sym (add-zero _)) c.seen_at-at.ensures c.nth.ensures,
-      lowest_more _ _ _ _ loop.invariant.1 c.min-second.ensures refl c.seen_at-at.ensures c.nth.ensures,
-      lowest_more _ _ _ _ loop.invariant.2 c.min-third.ensures refl c.seen_at-at.ensures c.nth.ensures,
-      lowest_more _ _ _ _ loop.invariant.3 c.min-fourth.ensures refl c.seen_at-at.ensures c.nth.ensures,
+      lowest_more _ _ _ _ loop.invariant.0 (search rules) (sym (add-zero _)) c.seen_at-at.ensures c.nth.ensures,
+      lowest_more _ _ _ _ loop.invariant.1 (search rules) refl c.seen_at-at.ensures c.nth.ensures,
+      lowest_more _ _ _ _ loop.invariant.2 (search rules) refl c.seen_at-at.ensures c.nth.ensures,
+      lowest_more _ _ _ _ loop.invariant.3 (search rules) refl c.seen_at-at.ensures c.nth.ensures,
     )
 
 pub returns : goal.returns
